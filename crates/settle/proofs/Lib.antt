@@ -1,0 +1,3 @@
+pub mod Mirrors
+pub mod Settling
+pub mod Clearing
