@@ -1,0 +1,2 @@
+// The Euler number and the held count.
+use crate::answers::{Counted, EulerNumber};
