@@ -1,0 +1,10 @@
+-- Laws for the proofs of this crate.
+mod Placed
+mod Parts
+mod Merging
+mod Turns
+mod Inside
+mod Front
+mod Standing
+mod Filled
+mod RowByRow
