@@ -8,3 +8,11 @@ mod Front
 mod Standing
 mod Filled
 mod RowByRow
+mod Appended
+mod Counts
+mod Running
+mod Fills
+mod FillsAll
+mod Picks
+mod Marked
+mod Turning
