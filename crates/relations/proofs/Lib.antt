@@ -16,3 +16,5 @@ mod FillsAll
 mod Picks
 mod Marked
 mod Turning
+mod Linked
+mod Right
