@@ -12,10 +12,10 @@ use Rattle.relations.proofs.merge.merge_inside_row.Statement.{statement
 use Rattle.relations.proofs.merge.merge_inside_row.Tie as tie
 
 abbrev Inv-loop : tie.InvT-loop
-Inv-loop book₀ n rows a m bound dst count left₀ at₀ book left at = Turn (liesIn book₀ rows bound a m) n bound dst book₀ (left₀ .next) (left₀ .end) book (left .next) (left .end) at
+Inv-loop book₀ n rows a m bound dst count rest₀ at₀ book rest at = Turn (liesIn book₀ rows bound a m) n bound dst book₀ (rest₀ .next) (rest₀ .end) book (rest .next) (rest .end) at
 
 abbrev μ-loop : tie.MeasureT-loop
-μ-loop book₀ n rows a m bound dst count left₀ at₀ book left at = length (joined (parts book₀ (left .next) (left₀ .end) n))
+μ-loop book₀ n rows a m bound dst count rest₀ at₀ book rest at = length (joined (parts book₀ (rest .next) (rest₀ .end) n))
 
 loop-holds : tie.Need-loop-holds Inv-loop μ-loop
 loop-holds c = let four : length (c .before .args .c .next) ≡ 4 = search needs in start (omega arith) (c .before .pre .0)
