@@ -1,17 +1,17 @@
 -- What holds of any words below 2^32, right or not: D is at most 3, no key from 32 on is held, and no count or place is too large for a number of 64 bits.
 use mathlib.Core.Path.{_≡_, refl, sym, _∙_}
-use mathlib.Core.Bool.{Bool, true, false, cond}
+use mathlib.Core.Bool.{Bool, true, false, cond, _&&_}
 use mathlib.Core.Logic.{inl, inr}
-use mathlib.Core.List.{List}
+use mathlib.Core.List.{List, [], _∷_}
 use Prim.Native.Nat.{ℕ, zero, suc, _+_, _*_, _/_, _%_, _^_, _≤_, _<_}
-use native.Mathlib.Nat.{eq-or-lt-of-le, pow-le-pow-right, div-eq-of-lt}
+use native.Mathlib.Nat.{eq-or-lt-of-le, pow-le-pow-right, div-eq-of-lt, mul-le-mul-left}
 use native.Mathlib.Decide.{decLt}
 use native.Mathlib.Numerals.{add-one}
 use native.Mathlib.Omega.{arith}
-use lib.ListN.{getD}
-use lib.Dec.{eqb}
-use Rattle.rules.specs.Book.{dim, count, named, held, place, offset, total}
-use Rattle.rules.proofs.FrameRule.{place-skipped, place-held}
+use lib.ListN.{length, getD}
+use lib.Dec.{eqb, ltb}
+use Rattle.rules.specs.Book.{dim, count, key, named, held, place, offset, total, needs, most}
+use Rattle.rules.proofs.FrameRule.{count-top, place-skipped, place-held}
 
 -- the place behind a relation, as code goes from one to the next
 module _ (ws : List ℕ) (k at : ℕ) (stands : at ≡ place ws k) where
@@ -71,3 +71,32 @@ module _ (ws : List ℕ) (words : (i : ℕ) → getD ws i 0 < 2 ^ 32) where
         | yes l ↦ omega (arith, place-most k)
         | no g ↦ omega (arith, place-still k (omega arith), place-most 32)
       ]
+
+-- a relation is made from at most three others
+pub needs-few : (D d e : ℕ) → length (needs D d e) ≤ 3
+unfolding needs
+needs-few D d e = go (eqb e 0 && ltb 0 d) (eqb d D) (ltb d e) (ltb e d) (ltb 0 d)
+  where
+    go : (a b c f g : Bool) → length (cond a (cond b [] (key D 0 ∷ [])) (cond c (key e d ∷ []) (cond f (key d 0 ∷ key 0 e ∷ key e 0 ∷ []) (cond g (key d 0 ∷ key 0 d ∷ []) (key 0 D ∷ key D 0 ∷ []))))) ≤ 3
+    go true true c f g = omega arith
+    go true false c f g = omega arith
+    go false b true f g = omega arith
+    go false b false true g = omega arith
+    go false b false false true = omega arith
+    go false b false false false = omega arith
+
+-- the bound on N_d is small
+pub most-few : (D d : ℕ) → most D d ≤ 6
+unfolding most
+most-few D d = go (eqb D 2) (eqb d 1)
+  where
+    go : (a b : Bool) → cond a 3 (cond b 6 4) ≤ 6
+    go true b = omega arith
+    go false true = omega arith
+    go false false = omega arith
+
+pub most-times : (ws : List ℕ) (d : ℕ) → 0 < dim ws → most (dim ws) d * count ws (dim ws) < 2 ^ 32
+most-times ws d p =
+    let n : count ws (dim ws) ≤ 8192 = rw (count-top ws p) (omega arith) in
+    let t = mul-le-mul-left (most (dim ws) d) n in
+    omega (arith, most-few (dim ws) d)

@@ -6,8 +6,8 @@ use mathlib.Core.List.{List, [], _∷_, map, List·Memᴰ as In, List·Memᴰ·h
 use Prim.Native.Nat.{ℕ, zero, suc, _+_, _-_, _≤_, _<_}
 use native.Mathlib.Nat.{not-suc-le-zero}
 use native.Mathlib.Omega.{arith}
-use lib.ListN.{length, getD}
-use lib.Seq.{ext-getD}
+use lib.ListN.{length, getD, take, length-take}
+use lib.Seq.{ext-getD, getD-take}
 use lib.Dec.{eqb, ltb, leb}
 use borrow.Author.Tests.{ltb-true, leb-true, lt-ltb, le-ltb, le-leb, lt-leb}
 use Rattle.rules.specs.Lists.{upTo, allOf, keep, ascends, rises}
@@ -28,9 +28,25 @@ module _ {ℓ} {A : Type ℓ} where
       ext-getD d xs (map f (upTo n)) (e ∙ sym (length-rows f n))
       (λ i l. let m : i < n = omega (arith, e, l) in h i m ∙ sym (getD-rows f n i d m))
 
-  -- one that fails
+  -- all pass
+  pub all-are : (p : A → Bool) (xs : List A) (d : A) → ((i : ℕ) → i < length xs → p (getD xs i d) ≡ true) → allOf p xs ≡ true
+  unfolding allOf
+  all-are p [] d f = refl
+  all-are p (x ∷ xs) d f = and-of (p x) (allOf p xs) (f 0 (omega arith)) (all-are p xs d (λ i l. f (suc i) (omega arith)))
+
+  -- one fails
   pub all-not : (p : A → Bool) (xs : List A) (d : A) (i : ℕ) → i < length xs → p (getD xs i d) ≡ false → allOf p xs ≡ false
   all-not p xs d i l f = not-so (allOf p xs) (λ t. false≢true (sym f ∙ all-place p xs d t i l))
+
+  -- the same of the first n
+  pub all-taken-are : (p : A → Bool) (n : ℕ) (xs : List A) (d : A) → ((i : ℕ) → i < n → p (getD xs i d) ≡ true) → allOf p (take n xs) ≡ true
+  all-taken-are p n xs d f =
+      all-are p (take n xs) d
+      (λ i l. let m : i < n = omega (arith, simp length-take at l) in rw (getD-take n xs i d m) (f i m))
+
+  pub all-taken-not : (p : A → Bool) (n : ℕ) (xs : List A) (d : A) (i : ℕ) → i < n → i < length xs → p (getD xs i d) ≡ false → allOf p (take n xs) ≡ false
+  all-taken-not p n xs d i m l f =
+      all-not p (take n xs) d i (rw length-take (omega arith)) (rw (getD-take n xs i d m) f)
 
   pub all-rows-not : (f : ℕ → A) (n : ℕ) (p : A → Bool) (i : ℕ) → i < n → p (f i) ≡ false → allOf p (map f (upTo n)) ≡ false
   all-rows-not f n p i l e = not-so (allOf p (map f (upTo n))) (λ t. false≢true (sym e ∙ all-rows f n p t i l))
