@@ -13,6 +13,7 @@ use Rattle.rules.specs.Book.{dim, count, key, held, place, rowOf, rowsOf
 use Rattle.rules.specs.Made.{built, turned, listedAt, intersected, neighbours, vertexNeighbours, madeFrom, made}
 use Rattle.rules.specs.Calls.{countAfter, added}
 use Rattle.rules.proofs.Tests.{all-at}
+use Rattle.rules.proofs.Slices.{part-front}
 use Rattle.rules.proofs.Keep.{upTo-is}
 use Rattle.rules.proofs.Numbered.{rows-agree, rowsBy-agree, any-agree, getD-rows}
 use Rattle.rules.proofs.Needs.{Kind, set, up, down, level, points, kind, key-div, key-mod, needs-build, needs-up, needs-down, needs-across, needs-vertices}
@@ -90,7 +91,7 @@ module _ (ws : List ℕ) (g : Right ws) where
   f : Framed ws
   f = framed ws (g .frame)
 
-  five : 5 ≤ getD ws 4 0
+  pub five : 5 ≤ getD ws 4 0
   five = omega (arith, parts ws g .used, getD-take 5 ws 4 0 (omega arith))
 
   pub used-word : (i : ℕ) → i < 5 → getD used i 0 ≡ getD ws i 0
@@ -132,7 +133,7 @@ module _ (ws : List ℕ) (g : Right ws) where
       let p = key-div x y (omega (arith, f .high)) in
       let q = key-mod x y (omega (arith, f .high)) in
       (λ i m. sym (row-same (key x y) i h (rw p m)),
-       λ i m v j. let a = row-all ws f (g .rows) (key x y) h i (rw p m) in rw q at (ltb-true _ _ (all-at (λ z. ltb z (count ws (key x y % 4))) a j)))
+       λ i m v j. let a = row-all ws f (g .rows) (key x y) h i (rw p m) in let z : v < count ws (key x y % 4) = ltb-true v (count ws (key x y % 4)) (all-at (λ z. ltb z (count ws (key x y % 4))) a j) in rw q at z)
 
   pub used-made : (d e : ℕ) → d ≤ dim ws → e ≤ dim ws → (e ≡ 0 → d < dim ws) → allOf (held ws) (needs (dim ws) d e) ≡ true → made used d e ≡ made ws d e
   used-made d e a b c ns =
@@ -148,6 +149,7 @@ module _ (ws : List ℕ) (g : Right ws) where
       let p = place ws (key d e) in
       let u = getD ws 4 0 in
       let r : p ≤ u = omega (arith, place-rises ws (key d e) 16 k, f .ends) in
-      let x : take (p - 5) (drop 5 used) ≡ take (p - 5) (drop 5 ws) = ? in
-      let y : take (u - p) (drop p used) ≡ take (u - p) (drop p ws) = ? in
+      let front : take u used ≡ take u ws = take-take u u ws (omega arith) in
+      let x : take (p - 5) (drop 5 used) ≡ take (p - 5) (drop 5 ws) = part-front used ws u front 5 (p - 5) (omega (arith, five)) in
+      let y : take (u - p) (drop p used) ≡ take (u - p) (drop p ws) = part-front used ws u front p (u - p) (omega arith) in
       rw (used-word 0 (omega arith), used-word 1 (omega arith), used-word 2 (omega arith), used-word 3 (omega arith), used-word 4 (omega arith), bare-dim ws g, used-place (key d e) k, used-made d e a b c ns, x, y)

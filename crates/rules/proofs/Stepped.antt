@@ -14,7 +14,7 @@ use Rattle.rules.proofs.Needs.{key-again}
 use Rattle.rules.proofs.Added.{held-added, other-added, keeps-added}
 use Rattle.rules.proofs.Asked.{rank, within, rank-pos, rank-needs, withKey-held, withKey-new}
 
-dim-added : (ws : List ℕ) (d e : ℕ) → dim (added ws d e) ≡ dim ws
+pub dim-added : (ws : List ℕ) (d e : ℕ) → dim (added ws d e) ≡ dim ws
 unfolding dim added
 dim-added ws d e = refl
 
