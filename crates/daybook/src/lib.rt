@@ -37,8 +37,14 @@ mod numbers;
 mod rows;
 mod write;
 
-pub use answers::{Counted, EulerNumber, Loaded, Written};
+pub use answers::Counted;
+pub use answers::EulerNumber;
+pub use answers::Loaded;
+pub use answers::Written;
 pub use load::load;
-pub use numbers::{euler, held_count};
-pub use rows::{row, row_number, row_start};
+pub use numbers::euler;
+pub use numbers::held_count;
+pub use rows::row;
+pub use rows::row_number;
+pub use rows::row_start;
 pub use write::write;

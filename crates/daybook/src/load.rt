@@ -1,7 +1,9 @@
 // Load: a day file's mesh becomes the book.
 use crate::answers::Loaded;
 use book::Place;
-use dayfile::{Cell, Fault, Header};
+use dayfile::Cell;
+use dayfile::Fault;
+use dayfile::Header;
 ghost use mathlib.Core.Path.{_≡_};
 ghost use Prim.Native.Nat.{_+_, _*_, _^_, _≤_, _<_};
 ghost use lib.ListN.{length, getD};
@@ -87,7 +89,14 @@ fn write_cells(file: &[u8], book: &mut [u32], dim: u32, cells: u32, used: usize)
     let size = dim as usize + 1;
     let mut c: u32 = 0;
     while c < cells {
-        write_cell(file, book, dim, Cell(c), Place(first + size * c as usize), used);
+        write_cell(
+            file,
+            book,
+            dim,
+            Cell(c),
+            Place(first + size * c as usize),
+            used,
+        );
         c += 1;
     }
 }

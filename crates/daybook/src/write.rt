@@ -6,8 +6,7 @@ ghost use Rattle.rules.specs.Calls.{writeNumber, writeBytes, writeLength};
 ghost use Rattle.daybook.specs.Answers.{writtenNumber, writtenLength};
 
 // Writes the book's file, each cell's vertices ascending, and gives its length; later bytes stay as they were. Refusals: 10, 11, 18.
-pub fn write(book: &[u32], bytes: &mut [u8]) -> Written
-{
+pub fn write(book: &[u32], bytes: &mut [u8]) -> Written {
     if !book::frame_right(book) {
         return Written::FrameBroken;
     }

@@ -1,7 +1,7 @@
 -- Ask on a right book, one relation after another: on the way the book is right, what it held stays, and what Ask gives is the same from there.
 use mathlib.Core.Path.{_≡_, refl, sym, ap, _∙_, fun-ext}
-use mathlib.Core.Bool.{Bool, true, false, true≢false}
-use mathlib.Core.List.{List, [], _∷_, _++_}
+use mathlib.Core.Bool.{Bool, true, false, cond, true≢false}
+use mathlib.Core.List.{List, [], _∷_, _++_, append-nil}
 use Prim.Native.Nat.{ℕ, zero, suc, _+_, _-_, _/_, _%_, _^_, _≤_, _<_}
 use native.Mathlib.Nat.{le-refl, le-trans}
 use native.Mathlib.Omega.{arith}
@@ -9,10 +9,10 @@ use lib.ListN.{length, getD, take, drop, replicate, length-append, length-take, 
 use lib.Seq.{take-at, length-take-le, getD-take}
 use borrow.Author.Tests.{le-leb}
 use Rattle.rules.specs.Lists.{allOf, filled}
-use Rattle.rules.specs.Book.{dim, key, held, place, rowsOf, relation, needs, frameRight, rowsRight}
+use Rattle.rules.specs.Book.{dim, key, named, held, place, rowsOf, relation, relations, needs, frameRight, rowsRight}
 use Rattle.rules.specs.Made.{made}
 use Rattle.rules.specs.Calls.{added, withKey}
-use Rattle.rules.specs.Steps.{nextKey}
+use Rattle.rules.specs.Steps.{nextKey, givenBack}
 use Rattle.rules.proofs.FrameRule.{Framed, framed, place-rises}
 use Rattle.rules.proofs.Needs.{key-again}
 use Rattle.rules.proofs.Added.{keeps-added}
@@ -21,7 +21,8 @@ use Rattle.rules.proofs.LoadedWords.{getD-filled}
 use Rattle.rules.proofs.RightBook.{free-are}
 use Rattle.rules.proofs.RightMake.{added-right, bare-right, added-old}
 use Rattle.rules.proofs.Asked.{rank, within, rank-five, withKey-held, Reaches, key-reaches}
-use Rattle.rules.proofs.RightAsk.{Right, bare, bare-dim}
+use Rattle.rules.proofs.RightAsk.{Right, bare, bare-dim, used-part}
+use Rattle.rules.proofs.Assembled.{assembled-is}
 use Rattle.rules.proofs.MadeAgree.{used-held, used-word, used-added, five}
 use Rattle.rules.proofs.Stepped.{Next, next, dim-added}
 
@@ -216,3 +217,26 @@ module _ (ws : List ℕ) (k : ℕ) (a : k / 4 ≤ dim ws) (b : k % 4 ≤ dim ws)
         let w : within D 6 k ≡ true = unfold within in rw (le-leb (k / 4) D i, le-leb (k % 4) D j) (le-leb (rank D k) 6 (omega (arith, rank-five D (f .low) (f .high) k i j))) in
         let m = key-reaches D (f .low) (f .high) (Long D (length xs)) (λ v t. t .dims) (λ v d e. long-added D (length xs) v d e) 6 6 xs k (omega arith) s w in
         rw (← onward-same) (omega (arith, m .inv .most, u .grown .size))
+
+-- ---- and the way back: the relations that ws held, with its head, are ws
+relations-agree : (h : ℕ → Bool) (rows news : ℕ → List (List ℕ)) → ((j : ℕ) → h j ≡ true → news j ≡ rows j) → (n : ℕ) → relations h news n ≡ relations h rows n
+unfolding relations
+relations-agree h rows news e zero = refl
+relations-agree h rows news e (suc n) = go (h n) refl (relations-agree h rows news e n)
+  where
+    go : (b : Bool) → h n ≡ b → relations h news n ≡ relations h rows n → relations h news n ++ cond b (relation (news n)) [] ≡ relations h rows n ++ cond b (relation (rows n)) []
+    go true q i = rw (i, e n q)
+    go false q i = rw i
+
+head-named : (ws : List ℕ) → held (take 5 ws) ≡ named (getD ws 1 0)
+head-named ws = fun-ext (λ k. unfold held in ap (λ (m : ℕ). named m k) (getD-take 5 ws 1 0 (omega arith)))
+
+pub back-again : (ws vs : List ℕ) → Right ws → Grown ws vs → givenBack (take 5 ws) vs ≡ ws
+unfolding givenBack held
+back-again ws vs g r =
+    let h : named (getD (take 5 ws) 1 0) ≡ named (getD ws 1 0) = ap named (getD-take 5 ws 1 0 (omega arith)) in
+    let e : relations (named (getD ws 1 0)) (rowsOf vs) 16 ≡ relations (named (getD ws 1 0)) (rowsOf ws) 16 = relations-agree (named (getD ws 1 0)) (rowsOf ws) (rowsOf vs) (r .rows) 16 in
+    rw (h, e, r .size) (ap (filled (length ws)) (sym whole) ∙ filled-used ws g)
+  where
+    whole : usedOf ws ≡ take 5 ws ++ relations (named (getD ws 1 0)) (rowsOf ws) 16
+    whole = used-part ws g ∙ assembled-is (take 5 ws) (rowsOf ws) [] ∙ rw (append-nil, head-named ws)

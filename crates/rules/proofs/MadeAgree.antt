@@ -131,9 +131,10 @@ module _ (ws : List ℕ) (g : Right ws) where
       → Same (count ws x) (rowOf ws (key x y)) (rowOf used (key x y)) × Below (count ws x) (count ws y) (rowOf ws (key x y))
   needed-same x y l h =
       let p = key-div x y (omega (arith, f .high)) in
-      let q = key-mod x y (omega (arith, f .high)) in
-      (λ i m. sym (row-same (key x y) i h (rw p m)),
-       λ i m v j. let a = row-all ws f (g .rows) (key x y) h i (rw p m) in let z : v < count ws (key x y % 4) = ltb-true v (count ws (key x y % 4)) (all-at (λ z. ltb z (count ws (key x y % 4))) a j) in rw q at z)
+      let q = key-mod x y (omega (arith, f .high)) in (
+        λ i m. sym (row-same (key x y) i h (rw p m)),
+        λ i m v j. let a = row-all ws f (g .rows) (key x y) h i (rw p m) in let z : v < count ws (key x y % 4) = ltb-true v (count ws (key x y % 4)) (all-at (λ z. ltb z (count ws (key x y % 4))) a j) in rw q at z,
+      )
 
   pub used-made : (d e : ℕ) → d ≤ dim ws → e ≤ dim ws → (e ≡ 0 → d < dim ws) → allOf (held ws) (needs (dim ws) d e) ≡ true → made used d e ≡ made ws d e
   used-made d e a b c ns =

@@ -1,8 +1,10 @@
--- Ask, one relation at a time: which relation is made next on the way to the one asked for.
+-- Ask, one relation at a time: which relation is made next on the way to the one asked for, and the way back where one does not fit.
 use mathlib.Core.Bool.{Bool, cond}
-use mathlib.Core.List.{List, [], _∷_}
+use mathlib.Core.List.{List, [], _∷_, _++_}
 use Prim.Native.Nat.{ℕ, zero, suc, _/_, _%_}
-use Rattle.rules.specs.Book.{needs}
+use lib.ListN.{length, getD}
+use Rattle.rules.specs.Lists.{filled}
+use Rattle.rules.specs.Book.{named, rowsOf, relations, needs}
 
 -- the first key of the list that is not held, or k where all are
 unfoldable pub firstOff : (ℕ → Bool) → ℕ → List ℕ → ℕ
@@ -17,3 +19,7 @@ onward D h k = firstOff h k (needs D (k / 4) (k % 4))
 unfoldable pub nextKey : ℕ → ℕ → (ℕ → Bool) → ℕ → ℕ
 nextKey zero D h k = k
 nextKey (suc n) D h k = nextKey n D h (onward D h k)
+
+-- the book with a head, and behind it only the relations that the head names, then zeros
+unfoldable pub givenBack : List ℕ → List ℕ → List ℕ
+givenBack head ws = filled (length ws) (head ++ relations (named (getD head 1 0)) (rowsOf ws) 16)
