@@ -1,9 +1,12 @@
 // The book: a day's mesh and its relations in lent 32-bit words. What its words say, for every slice of words.
 mod frame;
+mod rows;
 
 pub use frame::Needs;
 pub use frame::frame_right;
 pub use frame::needs_of;
+pub use rows::row;
+pub use rows::rows_right;
 ghost use mathlib.Core.Path.{_≡_};
 ghost use mathlib.Core.List.{map};
 ghost use Prim.Native.Nat.{ℕ, _+_, _≤_};

@@ -3,14 +3,14 @@ use mathlib.Core.Path.{_≡_, refl, sym, _∙_}
 use mathlib.Core.Bool.{Bool, true, false, cond, _&&_}
 use mathlib.Core.Logic.{inl, inr}
 use mathlib.Core.List.{List, [], _∷_}
-use Prim.Native.Nat.{ℕ, zero, suc, _+_, _*_, _/_, _%_, _^_, _≤_, _<_}
-use native.Mathlib.Nat.{eq-or-lt-of-le, pow-le-pow-right, div-eq-of-lt, mul-le-mul-left}
+use Prim.Native.Nat.{ℕ, zero, suc, _+_, _-_, _*_, _/_, _%_, _^_, _≤_, _<_}
+use native.Mathlib.Nat.{add-zero, eq-or-lt-of-le, pow-le-pow-right, div-eq-of-lt, mul-le-mul-left}
 use native.Mathlib.Decide.{decLt}
 use native.Mathlib.Numerals.{add-one}
 use native.Mathlib.Omega.{arith}
-use lib.ListN.{length, getD}
+use lib.ListN.{length, getD, take, drop}
 use lib.Dec.{eqb, ltb}
-use Rattle.rules.specs.Book.{dim, count, key, named, held, place, offset, total, needs, most}
+use Rattle.rules.specs.Book.{dim, count, key, named, held, place, offset, total, rowOf, needs, most}
 use Rattle.rules.proofs.FrameRule.{count-top, place-skipped, place-held}
 
 -- the place behind a relation, as code goes from one to the next
@@ -23,6 +23,24 @@ module _ (ws : List ℕ) (k at : ℕ) (stands : at ≡ place ws k) where
 
   pub place-passed : held ws k ≡ false → at ≡ place ws (k + 1)
   place-passed h = rw add-one (stands ∙ sym (place-skipped ws k h))
+
+  -- the first offset, and all of them, as code reads them
+  pub offset-begins : (first : ℕ) → first ≡ getD ws at 0 → offset ws k 0 ≡ first
+  unfolding offset
+  offset-begins first e = rw (add-zero, ← stands) (sym e)
+
+  pub offset-words : (n : ℕ) → n ≡ count ws (k / 4) → take (n + 1) (drop at ws) ≡ take (count ws (k / 4) + 1) (drop (place ws k) ws)
+  offset-words n e = rw (e, stands)
+
+  -- a row, and where it begins, as code reads them
+  module _ (i n first : ℕ) (rows : n ≡ count ws (k / 4)) (begins : first ≡ getD ws (at + i) 0) where
+    pub row-begins : at + n + 1 + first ≡ place ws k + count ws (k / 4) + 1 + offset ws k i
+    unfolding offset
+    row-begins = rw (begins, rows, stands)
+
+    pub row-words : (last : ℕ) → last ≡ getD ws (at + (i + 1)) 0 → take (last - first) (drop (at + n + 1 + first) ws) ≡ rowOf ws k i
+    unfolding rowOf offset
+    row-words last ends = rw (ends, begins, rows, stands)
 
 module _ (ws : List ℕ) (words : (i : ℕ) → getD ws i 0 < 2 ^ 32) where
   pub dim-most : dim ws ≤ 3

@@ -1,17 +1,20 @@
 -- Tests over keys, rows and words, as code goes through them one by one: what all passed, and what one failed, says of the whole.
-use mathlib.Core.Path.{_≡_, refl, sym, _∙_}
+use mathlib.Core.Path.{_≡_, refl, sym, ap, _∙_}
 use mathlib.Core.Bool.{Bool, true, false, not, _&&_, false≢true}
 use mathlib.Core.Logic.{_⊎_, inl, inr}
-use mathlib.Core.List.{List, [], _∷_, map, List·Memᴰ as In, List·Memᴰ·head as In·head, List·Memᴰ·tail as In·tail}
-use Prim.Native.Nat.{ℕ, zero, suc, _+_, _-_, _≤_, _<_}
+use mathlib.Core.List.{List, [], _∷_, _++_, map, List·Memᴰ as In, List·Memᴰ·head as In·head, List·Memᴰ·tail as In·tail}
+use Prim.Native.Nat.{ℕ, zero, suc, _+_, _-_, _≤_, _<_, min}
 use native.Mathlib.Nat.{not-suc-le-zero}
+use native.Mathlib.Numerals.{add-one}
 use native.Mathlib.Omega.{arith}
-use lib.ListN.{length, getD, take, length-take}
-use lib.Seq.{ext-getD, getD-take}
+use native.Mathlib.Decide.{decLt}
+use lib.ListN.{length, getD, take, drop, length-take, length-drop, drop-of-length-le, take-append-drop}
+use lib.Seq.{ext-getD, getD-take, take-all, take-nil, take-suc, drop-drop}
+use lib.Bits.{bitOr, or-add-and, and-le-l, and-le-r}
 use lib.Dec.{eqb, ltb, leb}
-use borrow.Author.Tests.{ltb-true, leb-true, lt-ltb, le-ltb, le-leb, lt-leb}
+use borrow.Author.Tests.{ltb-true, eqb-true, lt-ltb, le-ltb, le-leb, lt-leb, eq-eqb}
 use Rattle.rules.specs.Lists.{upTo, allOf, keep, ascends, rises}
-use Rattle.rules.proofs.Tests.{cases, left, right, and-of, all-of, all-at, all-place, getD-in}
+use Rattle.rules.proofs.Tests.{agree, left, right, and-of, all-of, all-at, all-place, getD-in}
 use Rattle.rules.proofs.Keep.{keep-of, keep-is, upTo-of, upTo-is}
 use Rattle.rules.proofs.Numbered.{length-rows, getD-rows, all-rows}
 use Rattle.rules.proofs.Distinct.{map-is}
@@ -122,3 +125,65 @@ last-decides m (x ∷ y ∷ ys) zero l a = absurd (omega arith)
 last-decides m (x ∷ y ∷ ys) (suc n) l a =
     and-absorbed (ltb x m) (allOf (λ j. ltb j m) (y ∷ ys)) (λ t. lt-ltb x m (omega (arith, ltb-true x y (left _ _ a), ltb-true y m (left _ _ t))))
     ∙ last-decides m (y ∷ ys) n (omega arith) (right (ltb x y) _ a)
+
+-- a part, with its start and its length cut at the list's end
+pub cut : (ws : List ℕ) (at n s m : ℕ) → s ≡ min at (length ws) → m ≡ min n (length ws - s) → take (s + m - s) (drop s ws) ≡ take n (drop at ws)
+cut ws at n s m p q = rw l (elim (decLt at (length ws)) [ yes a ↦ inner a | no b ↦ outer b ])
+  where
+    l : s + m - s ≡ m
+    l = omega arith
+
+    inner : at < length ws → take m (drop s ws) ≡ take n (drop at ws)
+    inner a =
+        let e : s ≡ at = omega arith in
+        elim (decLt n (length ws - at)) [
+          | yes b ↦ let f : m ≡ n = omega arith in rw (e, f)
+          | no b ↦ rw e (take-all m (drop at ws) (rw length-drop (omega arith)) ∙ sym (take-all n (drop at ws) (rw length-drop (omega arith))))
+        ]
+
+    outer : (at < length ws → ⊥) → take m (drop s ws) ≡ take n (drop at ws)
+    outer b = rw (drop-of-length-le ws {i = s} (omega arith), drop-of-length-le ws {i = at} (omega arith), take-nil m) (sym (take-nil n))
+
+-- a test of all, in two parts
+module _ {ℓ} {A : Type ℓ} (p : A → Bool) where
+  pub all-joined : (xs ys : List A) → allOf p (xs ++ ys) ≡ (allOf p xs && allOf p ys)
+  unfolding allOf
+  all-joined [] ys = refl
+  all-joined (x ∷ xs) ys = go (p x) (all-joined xs ys)
+    where
+      go : (b : Bool) → allOf p (xs ++ ys) ≡ (allOf p xs && allOf p ys) → (b && allOf p (xs ++ ys)) ≡ (b && allOf p xs && allOf p ys)
+      go true e = e
+      go false e = refl
+
+  pub all-split : (a n : ℕ) (xs : List A) → allOf p (drop a xs) ≡ (allOf p (take n (drop a xs)) && allOf p (drop (a + n) xs))
+  all-split a n xs =
+      ap (allOf p) (sym (take-append-drop n (drop a xs))) ∙ all-joined (take n (drop a xs)) (drop n (drop a xs))
+      ∙ ap (λ (ys : List A). allOf p (take n (drop a xs)) && allOf p ys) (drop-drop n a xs)
+
+  pub all-next : (i : ℕ) (xs : List A) (d : A) → i < length xs → allOf p (take (i + 1) xs) ≡ (allOf p (take i xs) && p (getD xs i d))
+  unfolding allOf
+  all-next i xs d l = rw (add-one, take-suc xs i d l) (all-joined (take i xs) (getD xs i d ∷ []) ∙ ap (λ (b : Bool). allOf p (take i xs) && b) (and-last (p (getD xs i d))))
+    where
+      and-last : (b : Bool) → (b && true) ≡ b
+      and-last true = refl
+      and-last false = refl
+
+-- words together by or are 0 exactly if each is
+pub or-none : (a b : ℕ) → eqb (bitOr a b) 0 ≡ (eqb a 0 && eqb 0 b)
+or-none a b =
+    agree (eqb (bitOr a b) 0) (eqb a 0 && eqb 0 b)
+    (λ t.
+    let z : bitOr a b ≡ 0 = eqb-true (bitOr a b) 0 t in
+    let x : a ≡ 0 = omega (arith, or-add-and a b, and-le-r a b) in
+    let y : 0 ≡ b = omega (arith, or-add-and a b, and-le-l a b) in
+    and-of (eqb a 0) (eqb 0 b) (eq-eqb a 0 x) (eq-eqb 0 b y))
+    (λ t.
+    let x : a ≡ 0 = eqb-true a 0 (left _ _ t) in
+    let y : 0 ≡ b = eqb-true 0 b (right (eqb a 0) _ t) in
+    eq-eqb (bitOr a b) 0 (omega (arith, or-add-and a b)))
+
+-- a list of no words
+pub no-words : (m : ℕ) (xs : List ℕ) → length xs ≡ 0 → (ascends xs && allOf (λ j. ltb j m) xs) ≡ true
+unfolding ascends allOf
+no-words m [] e = refl
+no-words m (x ∷ xs) e = absurd (omega arith)
