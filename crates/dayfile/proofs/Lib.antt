@@ -1,0 +1,4 @@
+pub mod Bounds
+pub mod Filled
+pub mod Four
+pub mod Network
