@@ -1,3 +1,4 @@
 pub mod Flags
 pub mod Listed
 pub mod FrameLeft
+pub mod Needed

@@ -1,11 +1,10 @@
 -- The invariant: at is where the relation of key k begins, and the relations passed that are held are right.
-use mathlib.Core.Path.{_≡_, refl, sym, ap, _∙_}
-use mathlib.Core.Bool.{Bool, true, false, true≢false, _&&_}
+use mathlib.Core.Path.{_≡_, refl, sym, _∙_}
+use mathlib.Core.Bool.{true, false, true≢false}
 use mathlib.Core.Logic.{⊎-elim}
-use Prim.Native.Nat.{ℕ, _+_, _-_, _≤_, _<_}
+use Prim.Native.Nat.{ℕ, _-_, _≤_, _<_}
 use native.Mathlib.Omega.{arith}
 use borrow.Author.Count.{below-more}
-use Rattle.rules.specs.Lists.{allOf}
 use Rattle.rules.specs.Book.{held, keysHeld, place, relationRight, rowsRight}
 use Rattle.rules.proofs.Steps.{all-kept-are, all-kept-not}
 use Rattle.book.proofs.Flags.{off, on}
