@@ -2,3 +2,4 @@ pub mod Flags
 pub mod Listed
 pub mod FrameLeft
 pub mod Needed
+pub mod Determined
