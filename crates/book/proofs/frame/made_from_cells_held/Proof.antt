@@ -26,7 +26,7 @@ dim-requires : tie.Need-dim-requires
 dim-requires c κs = search needs
 
 key-requires : tie.Need-key-requires
-key-requires c κs = (omega arith, low (c .before))
+key-requires c κs = (omega (arith, low (c .before)), omega (arith, low (c .before)))
 
 held-requires : tie.Need-held-requires
 held-requires c κs = search needs
