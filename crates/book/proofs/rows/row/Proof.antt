@@ -1,9 +1,9 @@
 -- The row's words are a part of the book, from offset i on.
-use mathlib.Core.Path.{_≡_, ap, _∙_}
+use mathlib.Core.Path.{ap, _∙_}
 use Prim.Native.Nat.{ℕ, _+_, _*_, _^_, _<_, min}
 use native.Mathlib.Omega.{arith}
 use borrow.Author.Needs.{needs}
-use lib.ListN.{length, getD, take, drop}
+use lib.ListN.{length, take, drop}
 use denote.Ref.{ptr}
 use Rattle.rules.proofs.AnyWords.{place-low, row-begins, row-words}
 use Rattle.book.specs.Parts.{rowPlace}
