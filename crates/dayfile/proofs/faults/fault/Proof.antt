@@ -1,6 +1,6 @@
 -- Each test is a line of the table of refusals, in its order, and each return is the first line that is broken.
 use mathlib.Core.Path.{_≡_, sym, _∙_}
-use Prim.Native.Nat.{_≤_, _<_}
+use Prim.Native.Nat.{_≤_}
 use lib.ListN.{length}
 use Rattle.rules.specs.Lists.{firstAt}
 use Rattle.rules.specs.File.{field, fileDim, fileVertices, fileCells, fileSpare, lengthOf, cellsInFile, outOf, twice}
