@@ -1,0 +1,5 @@
+pub mod Words
+pub mod Ready
+pub mod Turn
+pub mod Merge
+pub mod Near

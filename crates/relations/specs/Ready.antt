@@ -1,0 +1,24 @@
+-- When a relation can be made: what a maker of d→e may rely on, and where its sources stand.
+use mathlib.Core.Path.{_≡_}
+use mathlib.Core.Bool.{true}
+use mathlib.Core.List.{List}
+use Prim.Native.Nat.{ℕ, _≤_}
+use lib.ListN.{getD}
+use Rattle.rules.specs.Lists.{allOf}
+use Rattle.rules.specs.Book.{dim, count, key, held, place, needs, frameRight, rowsRight}
+
+-- the book is right, what d→e is made from is held, d→e is not D→0, and dst is the used length
+pub record Ready (ws : List ℕ) (d e dst : ℕ) : Type 0 where
+  pub frame : frameRight ws ≡ true
+  pub rows : rowsRight ws ≡ true
+  pub first : d ≤ dim ws
+  pub second : e ≤ dim ws
+  pub sources : allOf (held ws) (needs (dim ws) d e) ≡ true
+  pub below : d ≡ dim ws → e ≡ 0 → ⊥
+  pub used : dst ≡ getD ws 4 0
+
+-- d→e stands at `at`, with n rows of indices below m
+pub record Stands (ws : List ℕ) (d e at n m : ℕ) : Type 0 where
+  pub stands : at ≡ place ws (key d e)
+  pub rows : n ≡ count ws d
+  pub indices : m ≡ count ws e

@@ -1,0 +1,15 @@
+// New relations, made from what the book stores and written behind the used words: Transpose, Intersection and neighbours.
+pub mod merge;
+pub mod transpose;
+mod words;
+
+use book::Place;
+
+// A relation that another is made from: `from`→`to` stands at `at`, and has `rows` rows of indices below `below`.
+pub struct Source {
+    pub from: usize,
+    pub to: usize,
+    pub at: Place,
+    pub rows: u32,
+    pub below: u32,
+}
