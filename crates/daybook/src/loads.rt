@@ -2,16 +2,26 @@
 use crate::answers::Loaded;
 use dayfile::Fault;
 ghost use mathlib.Core.Path.{_≡_};
-ghost use lib.Dec.{eqb};
 ghost use Rattle.rules.specs.Calls.{loadNumber, loadCell, loadWords};
 ghost use Rattle.dayfile.specs.Faults.{faultNumber, cellNumber};
 ghost use Rattle.daybook.specs.Answers.{loadedNumber, loadedCell};
 
-// Whether the file has no fault.
-fn is_sound(f: Fault) -> bool
-    ensures { λ r. ⌜ r ≡ eqb (faultNumber f) 0 ⌝ }
+// The number of a file's fault, 0 for none.
+fn number_of(f: Fault) -> u32
+    ensures { λ r. ⌜ r ≡ faultNumber f ⌝ }
 {
-    if let Fault::None = f { true } else { false }
+    match f {
+        Fault::None => 0,
+        Fault::Short => 1,
+        Fault::NoDimension => 2,
+        Fault::ManyVertices => 3,
+        Fault::ManyCells => 4,
+        Fault::SpareBits => 5,
+        Fault::WrongLength => 6,
+        Fault::VertexOut(_) => 7,
+        Fault::VertexTwice(_) => 8,
+        Fault::BitsAfter => 9,
+    }
 }
 
 // Load's answer to a fault of the file.
@@ -39,7 +49,7 @@ pub fn load(file: &[u8], book: &mut [u32]) -> Loaded
     ensures words { λ r. ⌜ now (book .exit) ≡ loadWords (now (file .entry)) (now (book .entry)) ⌝ }
 {
     let fault = dayfile::fault(file);
-    if !is_sound(fault) {
+    if number_of(fault) != 0 {
         return refused(fault);
     }
     let head = dayfile::header(file);

@@ -1,3 +1,7 @@
+-- Each fault has one answer, with its number and its cell.
+use mathlib.Core.Path.{sym, ap}
+use Rattle.dayfile.specs.Faults.{faultNumber, cellNumber}
+use Rattle.daybook.specs.Answers.{loadedNumber, loadedCell}
 use borrow.Author.Needs.{needs}
 use Rattle.daybook.proofs.loads.refused.Statement.{statement}
 use Rattle.daybook.proofs.loads.refused.Tie as tie
@@ -46,43 +50,53 @@ enum-told-8 c = search needs
 
 -- src/loads.rt:18:1
 returns : tie.Need-returns
-returns c = ?
+unfolding faultNumber cellNumber loadedNumber loadedCell
+returns c = (sym (ap faultNumber (c .enum-told .given .1)), sym (ap cellNumber (c .enum-told .given .1)))
 
 -- src/loads.rt:18:1
 returns-2 : tie.Need-returns-2
-returns-2 c = ?
+unfolding faultNumber cellNumber loadedNumber loadedCell
+returns-2 c = (sym (ap faultNumber (c .enum-told2 .given .1)), sym (ap cellNumber (c .enum-told2 .given .1)))
 
 -- src/loads.rt:18:1
 returns-3 : tie.Need-returns-3
-returns-3 c = ?
+unfolding faultNumber cellNumber loadedNumber loadedCell
+returns-3 c = (sym (ap faultNumber (c .enum-told3 .given .1)), sym (ap cellNumber (c .enum-told3 .given .1)))
 
 -- src/loads.rt:18:1
 returns-4 : tie.Need-returns-4
-returns-4 c = ?
+unfolding faultNumber cellNumber loadedNumber loadedCell
+returns-4 c = (sym (ap faultNumber (c .enum-told4 .given .1)), sym (ap cellNumber (c .enum-told4 .given .1)))
 
 -- src/loads.rt:18:1
 returns-5 : tie.Need-returns-5
-returns-5 c = ?
+unfolding faultNumber cellNumber loadedNumber loadedCell
+returns-5 c = (sym (ap faultNumber (c .enum-told5 .given .1)), sym (ap cellNumber (c .enum-told5 .given .1)))
 
 -- src/loads.rt:18:1
 returns-6 : tie.Need-returns-6
-returns-6 c = ?
+unfolding faultNumber cellNumber loadedNumber loadedCell
+returns-6 c = (sym (ap faultNumber (c .enum-told6 .given .1)), sym (ap cellNumber (c .enum-told6 .given .1)))
 
 -- src/loads.rt:18:1
 returns-7 : tie.Need-returns-7
-returns-7 c = ?
+unfolding faultNumber cellNumber loadedNumber loadedCell
+returns-7 c = (sym (ap faultNumber (c .enum-told7 .given .1)), sym (ap cellNumber (c .enum-told7 .given .1)))
 
 -- src/loads.rt:18:1
 returns-8 : tie.Need-returns-8
-returns-8 c = ?
+unfolding faultNumber cellNumber loadedNumber loadedCell
+returns-8 c = (sym (ap faultNumber (c .before .f .given .1)), sym (ap cellNumber (c .before .f .given .1)))
 
 -- src/loads.rt:18:1
 returns-9 : tie.Need-returns-9
-returns-9 c = ?
+unfolding faultNumber cellNumber loadedNumber loadedCell
+returns-9 c = (sym (ap faultNumber (c .before .f2 .given .1)), sym (ap cellNumber (c .before .f2 .given .1)))
 
 -- src/loads.rt:18:1
 returns-10 : tie.Need-returns-10
-returns-10 c = ?
+unfolding faultNumber cellNumber loadedNumber loadedCell
+returns-10 c = (sym (ap faultNumber (c .enum-told8 .given .1)), sym (ap cellNumber (c .enum-told8 .given .1)))
 
 pub refused-spec : {M : Type 1} → statement M
 refused-spec =
