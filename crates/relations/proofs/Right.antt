@@ -103,10 +103,8 @@ module _ {ws : List ℕ} {d e dst at n m : ℕ} (r : Ready ws d e dst) (s : Stan
 module _ {ws : List ℕ} {d e dst : ℕ} (r : Ready ws d e dst) (x y : ℕ) (p : 0 < x) (l : x < 4) (m : y < 4) (hx : held ws (key x 0) ≡ true) (hy : held ws (key 0 y) ≡ true) where
   ready-incidence : Incidence ws (place ws (key x 0)) (count ws x) (place ws (key 0 y)) (count ws 0) (min dst (length ws))
   ready-incidence = record {
-    owned = ready-rows r x 0 (omega arith) hx;
-    backed = ready-rows r 0 y m hy;
+    through = record { owned = ready-rows r x 0 (omega arith) hx; backed = ready-rows r 0 y m hy; below = ready-below r x 0 (omega arith) hx };
     few = λ i h. omega (arith, ready-vertices r x p hx i h);
-    below = ready-below r x 0 (omega arith) hx;
     ascend = ready-ascends r 0 y m hy;
   }
 

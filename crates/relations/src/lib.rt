@@ -1,5 +1,6 @@
 // New relations, made from what the book stores and written behind the used words: Transpose, Intersection and neighbours.
 pub mod merge;
+pub mod points;
 pub mod transpose;
 mod words;
 
