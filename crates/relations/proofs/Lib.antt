@@ -20,3 +20,4 @@ mod Turning
 mod Linked
 mod Right
 mod Stamps
+mod PointRows
