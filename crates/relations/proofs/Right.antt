@@ -10,7 +10,7 @@ use Rattle.rules.specs.Lists.{upTo, allOf, ascends}
 use Rattle.rules.specs.Book.{dim, count, key, held, place, offset, total, needs}
 use Rattle.rules.specs.Made.{turned, made}
 use Rattle.rules.proofs.Tests.{left, right}
-use Rattle.rules.proofs.Needs.{key-div, key-mod, needs-up, needs-down, needs-across}
+use Rattle.rules.proofs.Needs.{key-div, key-mod, needs-up, needs-down, needs-across, needs-vertices}
 use Rattle.rules.proofs.FrameRule.{Framed, framed, limit, count-limit, room}
 use Rattle.rules.proofs.RowRule.{offset-first, offset-rises, row-ascends, row-all, row-vertices}
 use Rattle.rules.proofs.WordsFit.{used-short}
@@ -18,7 +18,8 @@ use Rattle.relations.specs.Words.{rowAt, Rows}
 use Rattle.relations.specs.Ready.{Ready, Stands}
 use Rattle.relations.specs.Turn.{Turnable}
 use Rattle.relations.specs.Near.{nearRow, innerRow, Incidence}
-use Rattle.relations.proofs.Linked.{rowIn, row-is, made-turned, made-near, made-inner}
+use Rattle.relations.specs.Points.{Around}
+use Rattle.relations.proofs.Linked.{rowIn, row-is, made-turned, made-near, made-inner, made-around}
 
 limit-most : (d : ℕ) → limit d ≤ 24576
 unfolding limit
@@ -152,3 +153,29 @@ module _ {ws : List ℕ} {d e dst own n own-below back v back-below sub b sub-be
   pub inner-made : map (innerRow ws own n back v sub b) (upTo n) ≡ made ws d e
   inner-made =
       rw (s .stands, s .rows, t .stands, t .rows, u .stands, u .rows) (sym (made-inner ws d e p q (omega (arith, small r, r .first))))
+
+-- ---- 0→0
+module _ {ws : List ℕ} {dst own n own-below back v back-below : ℕ} (r : Ready ws 0 0 dst)
+    (s : Stands ws 0 (dim ws) own n own-below) (t : Stands ws (dim ws) 0 back v back-below) where
+  points-held : allOf (held ws) (key 0 (dim ws) ∷ key (dim ws) 0 ∷ []) ≡ true
+  points-held = rw (needs-vertices (dim ws)) at (r .sources)
+
+  pub ready-points : Around ws own n back v (min dst (length ws))
+  unfolding allOf
+  ready-points =
+      let h = points-held in
+      let up : held ws (key 0 (dim ws)) ≡ true = search (left, right) in
+      let down : held ws (key (dim ws) 0) ≡ true = search (left, right) in
+      rw (s .stands, s .rows, t .stands, t .rows)
+      (record {
+        through = record {
+          owned = ready-rows r 0 (dim ws) (small r) up;
+          backed = ready-rows r (dim ws) 0 (omega arith) down;
+          below = ready-below r 0 (dim ws) (small r) up;
+        };
+        again = ready-below r (dim ws) 0 (omega arith) down;
+        most = frame r .vertices;
+      })
+
+  pub points-made : map (nearRow ws own n back v) (upTo n) ≡ made ws 0 0
+  points-made = rw (s .stands, s .rows, t .stands, t .rows) (sym (made-around ws (dim ws) refl (small r)))

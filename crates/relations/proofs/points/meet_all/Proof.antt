@@ -51,11 +51,10 @@ start-of-requires-2 : tie.Need-start-of-requires-2 Inv-loop μ-loop
 start-of-requires-2 c κs = (omega (arith, start (c .before .before) .pre .1 .1 .0 .fit), omega (arith, known (c .before .before)))
 
 meet-requires : tie.Need-meet-requires Inv-loop μ-loop
-meet-requires c κs = 
+meet-requires c κs =
     let t = c .before .before .before .before .before in
     let r = start t .pre .1 .1 .0 in
-    rw (c .before .before .before .start-of .ensures, c .before .before .start-of2 .ensures)
-    (
+    rw (c .before .before .before .start-of .ensures, c .before .before .start-of2 .ensures) (
       start-rises r (cell t) (cell t + 1) (omega arith) (omega (arith, known t)),
       (
         start-fit r (cell t + 1) (omega (arith, known t)),
@@ -70,7 +69,7 @@ loop-less : tie.Need-loop-less Inv-loop μ-loop
 loop-less c = omega arith
 
 loop-again : tie.Need-loop-again Inv-loop μ-loop
-loop-again c = 
+loop-again c =
     let second = c .before .before .before in
     let first = second .before in
     let t = first .before .before in

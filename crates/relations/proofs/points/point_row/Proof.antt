@@ -53,8 +53,7 @@ meet-all-requires c κs =
     let s = second .before .before .before .before .before in
     let w = s .pre .0 .through in
     let i = s .args .i in
-    rw (second .before .before .start-of .ensures, second .start-of2 .ensures)
-    (
+    rw (second .before .before .start-of .ensures, second .start-of2 .ensures) (
       start-rises (w .owned) i (i + 1) (omega arith) (omega (arith, s .pre .1 .1 .0)),
       (
         omega (arith, start-fit (w .owned) (i + 1) (omega (arith, s .pre .1 .1 .0))),
@@ -83,8 +82,7 @@ add-write-met-2 c = search needs
 write-met-requires : tie.Need-write-met-requires
 write-met-requires c κs =
     let m = c .before .before .before in
-    let q = start m .pre in
-    (
+    let q = start m .pre in (
       omega (arith, q .0 .most),
       (point-covered (q .0) (start m .args .i) (q .1 .1 .0) (q .1 .0) _ _ (met-is m) (touched-is m), q .1 .1 .1),
     )
@@ -95,8 +93,7 @@ same-length c = search needs
 returns : tie.Need-returns
 returns c =
     let m = c .before .before .before .before .before .before in
-    let q = start m .pre in
-    (
+    let q = start m .pre in (
       rw (point-row-is (q .0) (start m .args .i) (q .1 .1 .0) (q .1 .0) _ _ (met-is m) (touched-is m)) at (c .before .before .write-met .ensures),
       point-fresh (q .0) (start m .args .i) (q .1 .1 .0) (q .1 .0) _ _ (met-is m) (touched-is m),
     )

@@ -22,7 +22,7 @@ loop-holds : tie.Need-loop-holds Inv-loop μ-loop
 loop-holds c = (omega arith, refl, unfold upTo keep in written-none _ _ _ refl)
 
 write-touched-requires : tie.Need-write-touched-requires Inv-loop μ-loop
-write-touched-requires c κs = 
+write-touched-requires c κs =
     let t = c .before in
     let l = t .before .loop in
     let s = t .before .before .before in
@@ -35,7 +35,7 @@ loop-less : tie.Need-loop-less Inv-loop μ-loop
 loop-less c = omega arith
 
 loop-again : tie.Need-loop-again Inv-loop μ-loop
-loop-again c = 
+loop-again c =
     let call = c .before .before in
     let t = call .before .before in
     let l = t .before .loop in
@@ -46,7 +46,7 @@ same-length : tie.Need-same-length Inv-loop μ-loop
 same-length c = c .before .loop .inv .1
 
 returns : tie.Need-returns Inv-loop μ-loop
-returns c = 
+returns c =
     let e : c .before .loop .g ≡ c .before .before .before .args .groups = omega arith in
     rw e at (c .before .loop .inv .2)
 

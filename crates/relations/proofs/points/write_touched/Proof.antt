@@ -15,7 +15,7 @@ element-copy-out-if1 : tie.Need-element-copy-out-if1
 element-copy-out-if1 c = search needs
 
 returns : tie.Need-returns
-returns c = 
+returns c =
     let s = c .before .before .before in
     let a = s .args in
     rw (untouched-none (now (a .met)) (now (a .touched)) (a .stamp) (a .g) (s .pre .1 .0) (c .if1 .taken)) (written-none _ _ _ refl)
