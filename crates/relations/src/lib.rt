@@ -1,4 +1,4 @@
-// New relations, made from what the book stores and written behind the used words: Transpose, Intersection and neighbours.
+// New relations, made from what the book stores and written behind the used words: Transpose, Intersection, neighbours.
 pub mod merge;
 pub mod points;
 pub mod transpose;

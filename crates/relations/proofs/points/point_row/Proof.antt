@@ -44,8 +44,8 @@ add-start-of c = search needs
 start-of-requires-2 : tie.Need-start-of-requires-2
 start-of-requires-2 c κs = search needs
 
-add-meet-all : tie.Need-add-meet-all
-add-meet-all c = search needs
+add-stamp : tie.Need-add-stamp
+add-stamp c = search needs
 
 meet-all-requires : tie.Need-meet-all-requires
 meet-all-requires c κs =
@@ -76,9 +76,6 @@ element-write-met c = search needs
 add-write-met : tie.Need-add-write-met
 add-write-met c = search needs
 
-add-write-met-2 : tie.Need-add-write-met-2
-add-write-met-2 c = search needs
-
 write-met-requires : tie.Need-write-met-requires
 write-met-requires c κs =
     let m = c .before .before .before in
@@ -105,12 +102,11 @@ point-row-spec =
     start-of-requires
     add-start-of
     start-of-requires-2
-    add-meet-all
+    add-stamp
     meet-all-requires
     mul-met
     element-write-met
     add-write-met
-    add-write-met-2
     write-met-requires
     same-length
     returns)
