@@ -40,7 +40,7 @@ byte-bit bs s (suc (suc (suc (suc (suc (suc zero)))))) l = omega (arith, s 0, s 
 byte-bit bs s (suc (suc (suc (suc (suc (suc (suc zero))))))) l = omega (arith, s 0, s 1, s 2, s 3, s 4, s 5, s 6, s 7)
 byte-bit bs s (suc (suc (suc (suc (suc (suc (suc (suc j)))))))) l = absurd (omega arith)
 
-packed-at : (n q : ℕ) (bs : List ℕ) → q < n → getD (packed n bs) q 0 ≡ byteOf (drop (8 * q) bs)
+pub packed-at : (n q : ℕ) (bs : List ℕ) → q < n → getD (packed n bs) q 0 ≡ byteOf (drop (8 * q) bs)
 unfolding packed
 packed-at zero q bs l = absurd (omega arith)
 packed-at (suc n) zero bs l = refl
@@ -72,7 +72,7 @@ unfolding bitsIn allOf
 bits-bitsIn zero x = refl
 bits-bitsIn (suc w) x = rw (lt-ltb (x / 2 ^ w % 2) 2 (omega arith)) (bits-bitsIn w x)
 
-getD-bitsIn : (w x j : ℕ) → j < w → getD (bitsIn w x) j 0 ≡ x / 2 ^ (w - suc j) % 2
+pub getD-bitsIn : (w x j : ℕ) → j < w → getD (bitsIn w x) j 0 ≡ x / 2 ^ (w - suc j) % 2
 unfolding bitsIn
 getD-bitsIn zero x j l = absurd (omega arith)
 getD-bitsIn (suc w) x zero l = let e : suc w - 1 ≡ w = omega arith in rw e

@@ -34,7 +34,7 @@ fileBits m = bitsIn 32 (firstWord m) ++ joined (map (bitsIn 13) (joined (m .cell
 unfoldable pub fileOf : Mesh → List ℕ
 fileOf m = packed (lengthOf (m .dims) (length (m .cells))) (fileBits m)
 
-map-same {ℓ} : {A : Type ℓ} (f : A → A) (xs : List A) → ((x : A) → In x xs → f x ≡ x) → map f xs ≡ xs
+pub map-same {ℓ} : {A : Type ℓ} (f : A → A) (xs : List A) → ((x : A) → In x xs → f x ≡ x) → map f xs ≡ xs
 map-same f [] h = refl
 map-same f (x ∷ xs) h = cc (h x (here refl), map-same f xs (λ y i. h y (there i)))
 
@@ -60,7 +60,7 @@ module _ (m : Mesh) (s : Formed m) where
       q l)
 
   -- ---- the bits
-  bits-right : Bits (fileBits m)
+  pub bits-right : Bits (fileBits m)
   unfolding fileBits
   bits-right =
       all-append (λ b. ltb b 2) (bitsIn 32 (firstWord m)) (joined (map (bitsIn 13) (joined (m .cells)))) (bits-bitsIn 32 (firstWord m))
@@ -94,7 +94,7 @@ module _ (m : Mesh) (s : Formed m) where
   bit-is i l = packed-bit (lengthOf (m .dims) (length (m .cells))) (fileBits m) bits-right i l
 
   -- ---- the first 32 bits
-  word-is : field (fileOf m) 0 32 ≡ firstWord m
+  pub word-is : field (fileOf m) 0 32 ≡ firstWord m
   word-is = field-is (fileOf m) 0 32 (firstWord m) (unfold firstWord in omega (arith, s .high, s .vertices, s .cells)) at
     where
       at : (j : ℕ) → j < 32 → bitAt (fileOf m) (0 + j) ≡ getD (bitsIn 32 (firstWord m)) j 0

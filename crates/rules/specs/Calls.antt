@@ -62,6 +62,10 @@ loadRules f ws = fileRules f ++ (rule (ltb (length ws) (length (loaded f))) 13 �
 unfoldable pub loadNumber : List ℕ → List ℕ → ℕ
 loadNumber f ws = firstBroken (loadRules f ws) 0
 
+-- the cell that comes with Load's number: with 7 and 8 the lowest cell with that fault, else 0
+unfoldable pub loadCell : List ℕ → List ℕ → ℕ
+loadCell f ws = cond (eqb (loadNumber f ws) 7 || eqb (loadNumber f ws) 8) (faultCell f) 0
+
 -- the book after Load: every word is set, or none
 unfoldable pub loadWords : List ℕ → List ℕ → List ℕ
 loadWords f ws = cond (eqb (loadNumber f ws) 0) (filled (length ws) (loaded f)) ws

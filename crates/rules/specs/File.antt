@@ -88,3 +88,28 @@ bitWith bs i w x p = cond (leb i p && ltb p (i + w)) (x / 2 ^ (i + w - suc p) % 
 -- the bytes with the w low bits of x from bit i on, and every other bit as it was
 unfoldable pub withField : List ℕ → ℕ → ℕ → ℕ → List ℕ
 withField bs i w x = packed (length bs) (map (bitWith bs i w x) (upTo (8 * length bs)))
+
+-- ==== "The day file": its first 32 bits as a number
+-- D
+unfoldable pub headDim : ℕ → ℕ
+headDim h = h / 2 ^ 30
+
+-- N_0
+unfoldable pub headVertices : ℕ → ℕ
+headVertices h = h / 2 ^ 16 % 2 ^ 14
+
+-- N_D
+unfoldable pub headCells : ℕ → ℕ
+headCells h = h / 2 ^ 3 % 2 ^ 13
+
+-- the 3 spare bits
+unfoldable pub headSpare : ℕ → ℕ
+headSpare h = h % 2 ^ 3
+
+-- the length of the file that begins so
+unfoldable pub headLength : ℕ → ℕ
+headLength h = lengthOf (headDim h) (headCells h)
+
+-- the bytes with that file, of those vertices, at their front, and later bytes as they were; as they were where they have no room for it
+unfoldable pub putFile : ℕ → List ℕ → List ℕ → List ℕ
+putFile h vs bs = cond (leb (headLength h) (length bs)) (fileBytes (headDim h) (headCells h) h vs ++ drop (headLength h) bs) bs

@@ -1,0 +1,27 @@
+"""Every name that a page gives with a file, as `name` in `path`, stands in that file; and every file named on it exists.
+
+    python3 checks/names.py PAGE...
+"""
+
+import os
+import re
+import sys
+
+failed = 0
+for page in sys.argv[1:]:
+    text = re.sub(r"\s+", " ", open(page).read())
+    named = re.findall(r"((?:`[^`/ ]+`(?:, | and )?)+) in `([^`]+\.(?:antt|rt|h|py))`", text)
+    for names, path in named:
+        for name in re.findall(r"`([^`]+)`", names):
+            if not os.path.exists(path):
+                print("%s: there is no %s" % (page, path))
+                failed += 1
+            elif not re.search(r"(?<![\w-])%s(?![\w-])" % re.escape(name), open(path).read()):
+                print("%s: %s is not in %s" % (page, name, path))
+                failed += 1
+    for path in re.findall(r"`((?:crates|compare|docs|include|examples|bench|checks)/[^` ]*)`", text):
+        if not os.path.exists(path.rstrip("/")):
+            print("%s: there is no %s" % (page, path))
+            failed += 1
+    print("%s: %d names looked up" % (page, sum(len(re.findall("`[^`]+`", n)) for n, _ in named)))
+sys.exit(1 if failed else 0)

@@ -1,0 +1,143 @@
+/* Makes the library's calls on a book of its own, as it is told on standard input, and answers each
+ * on standard output. Guard words stand around every lent buffer. run.py speaks to it; all numbers are
+ * little-endian.
+ *
+ *   'B' n, n words          the book from now on
+ *   'L' n, n bytes          load that file
+ *   'M' d e, 'A' d e        make, ask
+ *   'R' d e i               row
+ *   'W' n, n bytes          write to a buffer with these bytes
+ *   'E', 'H'                Euler number, held count
+ *   'C'                     a checksum only
+ *
+ * An answer: the call's number (4 bytes), two out places (8 bytes each; they hold OUT before the call),
+ * checksums of the book and of the byte buffer (4 bytes each), and 1 where every guard still stands (4 bytes).
+ */
+#include "daybook.h"
+#include <stdio.h>
+#include <stdlib.h>
+#include <string.h>
+
+enum { GUARD = 64 };
+static const uint64_t OUT = 0xA5A5A5A5A5A5A5A5u;
+
+static uint32_t table[256];
+
+static void crc_table(void) {
+    for (uint32_t n = 0; n < 256; n++) {
+        uint32_t c = n;
+        for (int k = 0; k < 8; k++) c = c & 1 ? 0xEDB88320u ^ (c >> 1) : c >> 1;
+        table[n] = c;
+    }
+}
+
+static uint32_t crc(const unsigned char *p, size_t n) {
+    uint32_t c = 0xFFFFFFFFu;
+    while (n--) c = table[(c ^ *p++) & 255] ^ (c >> 8);
+    return c ^ 0xFFFFFFFFu;
+}
+
+/* A lent buffer of size bytes between two guards. */
+struct lent { unsigned char *whole; size_t size; };
+
+static unsigned char *at(struct lent l) { return l.whole + GUARD; }
+
+static struct lent lend(size_t size) {
+    struct lent l;
+    l.size = size;
+    l.whole = malloc(size + 2 * GUARD);
+    if (!l.whole) exit(3);
+    memset(l.whole, 0xC3, size + 2 * GUARD);
+    return l;
+}
+
+static uint32_t stands(struct lent l) {
+    for (size_t k = 0; k < GUARD; k++)
+        if (l.whole[k] != 0xC3 || l.whole[GUARD + l.size + k] != 0xC3) return 0;
+    return 1;
+}
+
+static void get(void *p, size_t n) {
+    if (fread(p, 1, n, stdin) != n) exit(2);
+}
+
+static uint32_t number(void) {
+    uint32_t x;
+    get(&x, 4);
+    return x;
+}
+
+int main(void) {
+    struct lent book = lend(0);
+    int call;
+    crc_table();
+    while ((call = getchar()) != EOF) {
+        struct lent bytes = lend(0);
+        uint64_t out[2] = {OUT, OUT};
+        uint32_t given = 0, d, e, i;
+        uint32_t *words = (uint32_t *)at(book);
+        size_t n = book.size / 4;
+        switch (call) {
+        case 'B':
+            i = number();
+            free(book.whole);
+            book = lend((size_t)i * 4);
+            get(at(book), book.size);
+            break;
+        case 'L':
+            i = number();
+            free(bytes.whole);
+            bytes = lend(i);
+            get(at(bytes), i);
+            given = daybook_load(at(bytes), i, words, n, (uint32_t *)out);
+            break;
+#ifdef HAVE_MAKE
+        case 'M':
+            d = number(), e = number();
+            given = daybook_make(words, n, d, e);
+            break;
+        case 'A':
+            d = number(), e = number();
+            given = daybook_ask(words, n, d, e);
+            break;
+#endif
+        case 'R': {
+            size_t start, count;
+            memcpy(&start, out, sizeof start), memcpy(&count, out, sizeof count);
+            d = number(), e = number(), i = number();
+            given = daybook_row(words, n, d, e, i, &start, &count);
+            memcpy(out, &start, sizeof start), memcpy(out + 1, &count, sizeof count);
+            break;
+        }
+        case 'W': {
+            size_t length;
+            memcpy(&length, out, sizeof length);
+            i = number();
+            free(bytes.whole);
+            bytes = lend(i);
+            get(at(bytes), i);
+            given = daybook_write(words, n, at(bytes), i, &length);
+            memcpy(out, &length, sizeof length);
+            break;
+        }
+        case 'E':
+            given = daybook_euler(words, n, (int64_t *)out);
+            break;
+        case 'H':
+            given = daybook_held_count(words, n, (uint32_t *)out);
+            break;
+        case 'C':
+            break;
+        default:
+            return 2;
+        }
+        uint32_t rest[3] = {crc(at(book), book.size), crc(at(bytes), bytes.size), stands(book) & stands(bytes)};
+        fwrite(&given, 4, 1, stdout);
+        fwrite(out, 8, 2, stdout);
+        fwrite(rest, 4, 3, stdout);
+        fflush(stdout);
+        free(bytes.whole);
+    }
+    free(book.whole);
+    return 0;
+}

@@ -1,0 +1,155 @@
+"""Files and books to try: true, damaged and lying ones."""
+
+import random
+
+import reference as rules
+
+
+def random_mesh(rng, D, points, count):
+    """Cells of D + 1 different vertices in any order; a cell may come twice."""
+    if points < D + 1:
+        count = 0
+    near = rng.random() < 0.5
+    cells = []
+    for _ in range(count):
+        if cells and rng.random() < 0.05:
+            cell = list(rng.choice(cells))
+        elif near:
+            low = rng.randrange(max(1, points - D - 3))
+            cell = rng.sample(range(low, min(points, low + D + 4)), D + 1)
+        else:
+            cell = rng.sample(range(points), D + 1)
+        rng.shuffle(cell)
+        cells.append(cell)
+    return D, points, cells
+
+
+def small_mesh(rng):
+    return random_mesh(rng, rng.choice((1, 2, 2, 3, 3)), rng.choice((0, 1, 3, 4, 5, 6, 8, 12)), rng.choice((0, 1, 1, 2, 3, 5, 8, 14)))
+
+
+def fan(points):
+    """Triangles around vertex 0."""
+    return 2, points, [[0, k, k + 1] for k in range(1, points - 1)]
+
+
+def sheet(n, m):
+    """A square of n by m points and 2 (n - 1) (m - 1) triangles."""
+    cells = []
+    for y in range(m - 1):
+        for x in range(n - 1):
+            a, b, c, d = y * n + x, y * n + x + 1, (y + 1) * n + x, (y + 1) * n + x + 1
+            cells += [[a, b, d], [a, c, d]]
+    return 2, n * m, cells
+
+
+def box(n, m, k):
+    """A box of n by m by k cubes, six tetrahedra each."""
+    def at(x, y, z):
+        return (z * (m + 1) + y) * (n + 1) + x
+    cells = []
+    for z in range(k):
+        for y in range(m):
+            for x in range(n):
+                for first, second in (((1, 0, 0), (1, 1, 0)), ((1, 0, 0), (1, 0, 1)), ((0, 1, 0), (1, 1, 0)),
+                                      ((0, 1, 0), (0, 1, 1)), ((0, 0, 1), (1, 0, 1)), ((0, 0, 1), (0, 1, 1))):
+                    cells.append([at(x, y, z), at(x + first[0], y + first[1], z + first[2]),
+                                  at(x + second[0], y + second[1], z + second[2]), at(x + 1, y + 1, z + 1)])
+    return 3, (n + 1) * (m + 1) * (k + 1), cells
+
+
+def damaged_file(rng, data):
+    """The file cut, made longer, with a bit turned, or broken on purpose so that each refusal comes up."""
+    data = bytearray(data)
+    way = rng.randrange(9)
+    if way == 0:
+        return bytes(data[:rng.randrange(len(data) + 1)])
+    if way == 1:
+        return bytes(data) + bytes(rng.randrange(256) for _ in range(rng.randrange(1, 4)))
+    if way == 2:
+        data[0] &= 0x3F
+    elif way == 3:
+        data[0] = data[0] & 0xC0 | 0x3F
+    elif way == 4:
+        data[2] = 0xFF
+    elif way == 5:
+        data[3] |= rng.randrange(1, 8)
+    elif way == 6:
+        data[-1] |= 1 << rng.randrange(8)
+    else:
+        bit = rng.randrange(8 * len(data))
+        data[bit // 8] ^= 0x80 >> bit % 8
+    return bytes(data)
+
+
+def faulty_file(rng):
+    """Cells with vertices out of range, vertices twice, or both, and perhaps bits after the end."""
+    D = rng.choice((1, 2, 3))
+    points = rng.choice((0, 2, 4, 6))
+    cells = [[rng.randrange(points + rng.choice((0, 0, 1))) if points else 0 for _ in range(D + 1)] for _ in range(rng.randrange(1, 6))]
+    data = bytearray(rules.file_bytes(D, points, cells))
+    if rng.random() < 0.3:
+        data[-1] |= 1
+    return bytes(data)
+
+
+def lying_book(rng, room):
+    """A book that breaks no rule and tells no truth: any rows that ascend and lie below the counts."""
+    D = rng.choice((1, 2, 2, 3, 3))
+    points, cells = rng.choice((4, 5, 7)), rng.choice((0, 1, 2, 4))
+    held = {(D, 0)}
+    for _ in range(rng.randrange(9)):
+        d, e = rng.randrange(D + 1), rng.randrange(D + 1)
+        if all(n in held for n in rules.needs(D, d, e)):
+            held.add((d, e))
+    counts = {0: points, D: cells}
+    for d in range(1, D):
+        if (d, 0) in held:
+            counts[d] = rng.randrange({(2, 1): 3, (3, 1): 6, (3, 2): 4}[D, d] * cells + 1)
+    words = []
+    for d, e in sorted(held):
+        rows = []
+        for _ in range(counts[d]):
+            if e == 0 and d > 0:
+                size = d + 1
+            else:
+                size = rng.randrange(min(counts[e], 4) + 1)
+            rows.append(sorted(rng.sample(range(counts[e]), size)))
+        words += rules.words_of(rows)
+    head = D << 30 | points << 16 | cells << 3
+    inner = [counts[d] if 0 < d < D and (d, 0) in held else 0 for d in (1, 2)]
+    book = [head, sum(1 << 4 * d + e for d, e in held)] + inner + [5 + len(words)] + words
+    return book + [0] * rng.choice((0, 0, 1, 20, room))
+
+
+def damaged_book(rng, book):
+    """A head word, an offset, an index or a free word changed, or the book cut or made longer."""
+    book = list(book)
+    way = rng.randrange(8)
+    strange = rng.choice((0, 1, 2, 5, 0xFFFF, 0x10000, 0x7FFFFFFF, 0x80000000, 0xFFFFFFFF, rng.randrange(1 << 32)))
+    if way == 0 and book:
+        book[rng.randrange(min(5, len(book)))] = strange
+    elif way == 1 and book:
+        at = rng.randrange(min(5, len(book)))
+        book[at] ^= 1 << rng.randrange(32)
+    elif way in (2, 3) and len(book) > 5:
+        at = rng.randrange(5, len(book))
+        book[at] = rng.choice((strange, book[at] + 1, max(0, book[at] - 1), rng.randrange(8))) & 0xFFFFFFFF
+    elif way == 4 and len(book) > 5:
+        end = min(len(book), max(6, book[4]))
+        at = rng.randrange(5, end)
+        book[at] = (book[at] + rng.choice((1, 0xFFFFFFFF))) & 0xFFFFFFFF
+    elif way == 5 and len(book) > 5:
+        used = book[4]
+        if used < len(book):
+            book[rng.randrange(used, len(book))] = strange
+    elif way == 6:
+        book = book[:rng.randrange(len(book) + 1)]
+    else:
+        book += [0] * rng.randrange(1, 5)
+    return book
+
+
+def tiny_book(rng):
+    """0 to 6 words of any value."""
+    return [rng.choice((0, 1, 5, 6, 16, 256, 4096, 0x40000000, 0x80040010, 0xFFFFFFFF, rng.randrange(1 << 32))) for _ in range(rng.randrange(7))]

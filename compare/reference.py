@@ -1,0 +1,324 @@
+"""A separate reading of document 01: every call of the library, on plain Python lists.
+
+Written from the paper alone. It shares no definition with crates/ and takes the plain way
+where the library takes the quick one, so that a mistake has to be made twice to go unseen.
+A file is a bytes object, a book a list of numbers below 2^32 that the calls change in place.
+"""
+
+KEYS = range(16)
+
+
+# ---- the day file
+
+class Bits:
+    """Bit fields, most significant bit first; bits past the end are 0."""
+
+    def __init__(self, data):
+        self.size = 8 * len(data)
+        self.number = int.from_bytes(data, "big")
+
+    def field(self, at, width):
+        end = at + width
+        number = self.number << max(0, end - self.size)
+        return (number >> max(0, self.size - end)) & ((1 << width) - 1)
+
+
+def file_length(D, cells):
+    return 4 + (13 * (D + 1) * cells + 7) // 8
+
+
+def read_file(data):
+    """Refusals 1 to 9: (number, cell, None), or (0, None, (D, N_0, cells as they stand in the file))."""
+    if len(data) < 4:
+        return 1, None, None
+    bits = Bits(data)
+    D, points, count, spare = bits.field(0, 2), bits.field(2, 14), bits.field(16, 13), bits.field(29, 3)
+    if D == 0:
+        return 2, None, None
+    if points > 8192:
+        return 3, None, None
+    if count > 4096:
+        return 4, None, None
+    if spare:
+        return 5, None, None
+    if len(data) != file_length(D, count):
+        return 6, None, None
+    cells = [[bits.field(32 + 13 * ((D + 1) * c + k), 13) for k in range(D + 1)] for c in range(count)]
+    for c, cell in enumerate(cells):
+        if any(v >= points for v in cell):
+            return 7, c, None
+    for c, cell in enumerate(cells):
+        if len(set(cell)) < len(cell):
+            return 8, c, None
+    end = 32 + 13 * (D + 1) * count
+    if bits.field(end, 8 * len(data) - end):
+        return 9, None, None
+    return 0, None, (D, points, cells)
+
+
+def file_bytes(D, points, cells):
+    """The bytes of a file; cells in the order and with the vertices given."""
+    text = format(D, "02b") + format(points, "014b") + format(len(cells), "013b") + "000"
+    text += "".join(format(v, "013b") for cell in cells for v in cell)
+    text += "0" * (-len(text) % 8)
+    return int(text, 2).to_bytes(len(text) // 8, "big")
+
+
+# ---- the book
+
+def needs(D, d, e):
+    """What d→e is made from."""
+    if e == 0 and d > 0:
+        return [] if d == D else [(D, 0)]
+    if d < e:
+        return [(e, d)]
+    if d > e:
+        return [(d, 0), (0, e), (e, 0)]
+    if d > 0:
+        return [(d, 0), (0, d)]
+    return [(0, D), (D, 0)]
+
+
+class Frame:
+    """A book whose frame is right, taken apart; None of it is made where the frame rule is broken."""
+
+    @staticmethod
+    def of(book):
+        if len(book) < 5:
+            return None
+        head, mask = book[0], book[1]
+        frame = Frame()
+        D, points, cells = head >> 30, head >> 16 & 0x3FFF, head >> 3 & 0x1FFF
+        if D == 0 or points > 8192 or cells > 4096 or head & 7:
+            return None
+        frame.D, frame.book = D, book
+        frame.counts = {0: points, D: cells}
+        frame.held = {divmod(k, 4) for k in range(32) if mask >> k & 1}
+        if any(d > D or e > D for d, e in frame.held) or (D, 0) not in frame.held:
+            return None
+        for d, e in frame.held:
+            if any(n not in frame.held for n in needs(D, d, e)):
+                return None
+        for d in (1, 2):
+            if d < D and (d, 0) in frame.held:
+                most = {(2, 1): 3, (3, 1): 6, (3, 2): 4}[D, d]
+                if book[1 + d] > most * cells:
+                    return None
+                frame.counts[d] = book[1 + d]
+            elif book[1 + d] != 0:
+                return None
+        used = book[4]
+        if used > len(book):
+            return None
+        frame.places, at = {}, 5
+        for d, e in sorted(frame.held):
+            frame.places[d, e] = at
+            last = at + frame.counts[d]
+            if last >= used:
+                return None
+            at = last + 1 + book[last]
+        if at != used:
+            return None
+        return frame
+
+    def offsets(self, d, e):
+        at = self.places[d, e]
+        return self.book[at:at + self.counts[d] + 1]
+
+    def rows(self, d, e):
+        """The rows of a relation, of a book whose rows are right."""
+        offsets = self.offsets(d, e)
+        first = self.places[d, e] + self.counts[d] + 1
+        return [self.book[first + a:first + b] for a, b in zip(offsets, offsets[1:])]
+
+    def rows_right(self):
+        for d, e in sorted(self.held):
+            offsets = self.offsets(d, e)
+            if offsets[0] != 0 or any(a > b for a, b in zip(offsets, offsets[1:])):
+                return False
+            for row in self.rows(d, e):
+                if any(a >= b for a, b in zip(row, row[1:])):
+                    return False
+                if any(j >= self.counts[e] for j in row):
+                    return False
+                if e == 0 and d > 0 and len(row) != d + 1:
+                    return False
+        return not any(self.book[self.book[4]:])
+
+
+def words_of(rows):
+    """A relation as words: its offsets, then its indices."""
+    words, total = [0], 0
+    for row in rows:
+        total += len(row)
+        words.append(total)
+    for row in rows:
+        words.extend(row)
+    return words
+
+
+def choose(n, xs):
+    """The sets of n members of an ascending list, in lexicographic order."""
+    if n == 0:
+        return [[]]
+    return [[x] + rest for i, x in enumerate(xs) for rest in choose(n - 1, xs[i + 1:])]
+
+
+def made(D, counts, rows, d, e):
+    """d→e by the five rules, from the rows of other relations, whatever they say."""
+    if e == 0 and d > 0:
+        met, order = set(), []
+        for cell in rows[D, 0]:
+            for s in choose(d + 1, cell):
+                if tuple(s) not in met:
+                    met.add(tuple(s))
+                    order.append(s)
+        return order
+    if d < e:
+        out = [[] for _ in range(counts[d])]
+        for j, row in enumerate(rows[e, d]):
+            for i in row:
+                out[i].append(j)
+        return out
+    if d > e:
+        out = []
+        for row in rows[d, 0]:
+            inside = set(row)
+            listed = sorted({j for v in row for j in rows[0, e][v]})
+            out.append([j for j in listed if inside.issuperset(rows[e, 0][j])])
+        return out
+    if d > 0:
+        return [sorted({j for v in row for j in rows[0, d][v]} - {i}) for i, row in enumerate(rows[d, 0])]
+    return [sorted({j for c in row for j in rows[D, 0][c]} - {i}) for i, row in enumerate(rows[0, D])]
+
+
+# ---- the calls
+
+def load(data, book):
+    """(number, cell or None)"""
+    number, cell, mesh = read_file(data)
+    if number:
+        return number, cell
+    D, points, cells = mesh
+    body = words_of([sorted(cell) for cell in cells])
+    words = [int.from_bytes(data[:4], "big"), 1 << 4 * D, 0, 0, 5 + len(body)] + body
+    if len(words) > len(book):
+        return 13, None
+    book[:] = words + [0] * (len(book) - len(words))
+    return 0, None
+
+
+class State:
+    """The relations of a right book as rows, to make others from and to put together again."""
+
+    def __init__(self, frame):
+        self.D, self.counts = frame.D, dict(frame.counts)
+        self.rows = {r: frame.rows(*r) for r in frame.held}
+
+    def make(self, d, e):
+        rows = made(self.D, self.counts, self.rows, d, e)
+        self.rows[d, e] = rows
+        if e == 0 and 0 < d < self.D:
+            self.counts[d] = len(rows)
+
+    def ask(self, d, e):
+        if (d, e) in self.rows:
+            return
+        for x, y in needs(self.D, d, e):
+            self.ask(x, y)
+        self.make(d, e)
+
+    def words(self, head):
+        inner = [self.counts[d] if 0 < d < self.D and (d, 0) in self.rows else 0 for d in (1, 2)]
+        body = [w for r in sorted(self.rows) for w in words_of(self.rows[r])]
+        return [head, sum(1 << 4 * d + e for d, e in self.rows)] + inner + [5 + len(body)] + body
+
+
+def settle(state, book):
+    words = state.words(book[0])
+    if len(words) > len(book):
+        return 13
+    book[:] = words + [0] * (len(book) - len(words))
+    return 0
+
+
+def make(book, d, e):
+    frame = Frame.of(book)
+    if frame is None:
+        return 10
+    if not frame.rows_right():
+        return 11
+    if d > frame.D or e > frame.D:
+        return 12
+    if (d, e) in frame.held:
+        return 14
+    if any(n not in frame.held for n in needs(frame.D, d, e)):
+        return 15
+    state = State(frame)
+    state.make(d, e)
+    return settle(state, book)
+
+
+def ask(book, d, e):
+    frame = Frame.of(book)
+    if frame is None:
+        return 10
+    if not frame.rows_right():
+        return 11
+    if d > frame.D or e > frame.D:
+        return 12
+    state = State(frame)
+    state.ask(d, e)
+    return settle(state, book)
+
+
+def row(book, d, e, i):
+    """(number, start, count), the last two 0 on a refusal"""
+    frame = Frame.of(book)
+    if frame is None:
+        return 10, 0, 0
+    if d > frame.D or e > frame.D:
+        return 12, 0, 0
+    if (d, e) not in frame.held:
+        return 16, 0, 0
+    if i >= frame.counts[d]:
+        return 17, 0, 0
+    offsets = frame.offsets(d, e)
+    first, second, total = offsets[i], offsets[i + 1], offsets[-1]
+    if not first <= second <= total:
+        return 11, 0, 0
+    return 0, frame.places[d, e] + frame.counts[d] + 1 + first, second - first
+
+
+def write(book, out):
+    """(number, length); out is a bytearray"""
+    frame = Frame.of(book)
+    if frame is None:
+        return 10, 0
+    if not frame.rows_right():
+        return 11, 0
+    data = file_bytes(frame.D, frame.counts[0], frame.rows(frame.D, 0))
+    if len(out) < len(data):
+        return 18, 0
+    out[:len(data)] = data
+    return 0, len(data)
+
+
+def euler(book):
+    """(number, Euler number)"""
+    frame = Frame.of(book)
+    if frame is None:
+        return 10, 0
+    if not frame.rows_right():
+        return 11, 0
+    if any((d, 0) not in frame.held for d in range(1, frame.D)):
+        return 15, 0
+    return 0, sum((-1) ** d * frame.counts[d] for d in range(frame.D + 1))
+
+
+def held_count(book):
+    """(number, count)"""
+    frame = Frame.of(book)
+    if frame is None:
+        return 10, 0
+    return 0, len(frame.held)

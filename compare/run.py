@@ -1,0 +1,240 @@
+"""Random sequences of calls, through the C interface and through reference.py: every answer, every lent
+word and byte, and every guard word must agree.
+
+    python3 compare/run.py [--calls N] [--seed S] [--full]
+
+--full adds meshes of the full size. It prints, for each call, how often each number was given, and the seed.
+"""
+
+import argparse
+import os
+import platform
+import random
+import shutil
+import struct
+import subprocess
+import sys
+import zlib
+
+HERE = os.path.dirname(os.path.abspath(__file__))
+TOP = os.path.dirname(HERE)
+sys.path.insert(0, HERE)
+
+import meshes  # noqa: E402
+import reference as rules  # noqa: E402
+
+OUT = 0xA5A5A5A5A5A5A5A5
+LOW = 0xFFFFFFFF00000000
+
+
+def tools():
+    """The C compiler for x86-64, and the words that run what it makes."""
+    if platform.machine() == "x86_64":
+        return ["cc"], []
+    home = os.path.dirname(os.path.dirname(os.path.realpath(shutil.which("rt"))))
+    emulator = os.path.join(home, "on", platform.machine(), "toolchain", "bin", "qemu-x86_64")
+    return ["x86_64-linux-gnu-gcc"], [emulator]
+
+
+def built():
+    """The driver, linked with the proved library that stands in target/staticlib."""
+    archive = os.path.join(TOP, "target", "staticlib", "libdaybook_c.a")
+    if not os.path.exists(archive):
+        subprocess.run(["rt", "staticlib", "daybook_c"], cwd=TOP, check=True, stdout=subprocess.DEVNULL)
+    folder = os.path.join(TOP, "target", "compare")
+    os.makedirs(folder, exist_ok=True)
+    program = os.path.join(folder, "driver")
+    with open(os.path.join(TOP, "include", "daybook.h")) as header:
+        words = ["-DHAVE_MAKE"] if "daybook_make" in header.read() else []
+    compiler, run = tools()
+    subprocess.run(compiler + words + ["-std=c11", "-O2", "-Wall", "-Wextra", "-static", "-I", os.path.join(TOP, "include"),
+                   os.path.join(HERE, "driver.c"), archive, "-o", program], check=True)
+    return run + [program], bool(words)
+
+
+class Library:
+    """The calls through the C interface."""
+
+    def __init__(self, command):
+        self.process = subprocess.Popen(command, stdin=subprocess.PIPE, stdout=subprocess.PIPE)
+
+    def call(self, text):
+        self.process.stdin.write(text)
+        self.process.stdin.flush()
+        answer = self.process.stdout.read(32)
+        if len(answer) < 32:
+            raise SystemExit("the library's program ended early")
+        return struct.unpack("<IQQIII", answer)
+
+
+def checksum(words):
+    return zlib.crc32(struct.pack("<%dI" % len(words), *words))
+
+
+class Runs:
+    def __init__(self, seed, library, calls, makes):
+        self.rng, self.library, self.left, self.makes = random.Random(seed), library, calls, makes
+        self.table, self.book, self.past, self.made = {}, [], [], 0
+
+    def fail(self, what, got, wanted):
+        print("DISAGREE: %s: the library says %s, the reference %s" % (what, got, wanted))
+        print("book before: %s" % (self.past[:200],))
+        raise SystemExit(1)
+
+    def use(self, book):
+        self.book = list(book)
+        self.library.call(b"B" + struct.pack("<I%dI" % len(book), len(book), *book))
+
+    def check(self, name, text, number, first, second, data=b"", what=""):
+        got = self.library.call(text)
+        wanted = (number, first, second, checksum(self.book), zlib.crc32(data), 1)
+        if got != wanted:
+            self.fail("%s %s" % (name, what), got, wanted)
+        row = self.table.setdefault(name, {})
+        row[number] = row.get(number, 0) + 1
+        self.left -= 1
+        self.made += 1
+
+    def load(self, data):
+        self.past = list(self.book)
+        number, cell = rules.load(data, self.book)
+        first = OUT if cell is None else OUT & LOW | cell
+        self.check("load", b"L" + struct.pack("<I", len(data)) + data, number, first, OUT, data, data[:64].hex())
+        return number
+
+    def relation(self, name, d, e):
+        self.past = list(self.book)
+        call = {"make": rules.make, "ask": rules.ask}[name]
+        number = call(self.book, d, e)
+        self.check(name, (b"M" if name == "make" else b"A") + struct.pack("<II", d, e), number, OUT, OUT, what=(d, e))
+        return number
+
+    def row(self, d, e, i):
+        self.past = self.book
+        number, start, count = rules.row(self.book, d, e, i)
+        first, second = (OUT, OUT) if number else (start, count)
+        self.check("row", b"R" + struct.pack("<III", d, e, i), number, first, second, what=(d, e, i))
+
+    def write(self, size):
+        self.past = self.book
+        data = bytearray(self.rng.randrange(256) for _ in range(size)) if size < 4096 else bytearray(b"\x5a" * size)
+        text = b"W" + struct.pack("<I", size) + bytes(data)
+        number, length = rules.write(self.book, data)
+        self.check("write", text, number, OUT if number else length, OUT, bytes(data), size)
+
+    def euler(self):
+        self.past = self.book
+        number, value = rules.euler(self.book)
+        self.check("euler", b"E", number, OUT if number else value % 2 ** 64, OUT)
+
+    def held_count(self):
+        self.past = self.book
+        number, count = rules.held_count(self.book)
+        self.check("held_count", b"H", number, OUT if number else OUT & LOW | count, OUT)
+
+    def dimension(self):
+        return self.rng.choice((0, 0, 1, 1, 2, 2, 3, 3, 4, 0xFFFFFFFF)) if self.rng.random() < 0.2 else self.rng.randrange(4)
+
+    def look(self):
+        """One call that only reads."""
+        rng = self.rng
+        way = rng.randrange(8)
+        if way < 4:
+            d, e = self.dimension(), self.dimension()
+            self.row(d, e, rng.choice((rng.randrange(4), rng.randrange(20), 8191, 0xFFFFFFFF)))
+        elif way < 6:
+            self.write(rng.choice((0, 3, 4, rng.randrange(64), 200)))
+        elif way == 6:
+            self.euler()
+        else:
+            self.held_count()
+
+    def step(self, made):
+        rng = self.rng
+        if self.makes and rng.random() < made:
+            self.relation(rng.choice(("make", "ask")), self.dimension(), self.dimension())
+        else:
+            self.look()
+
+    def true_run(self):
+        rng = self.rng
+        self.use([rng.randrange(1 << 32) for _ in range(rng.choice((0, 4, 5, 6, 14, 40, 60, 119, 300, 900)))])
+        for _ in range(rng.randrange(1, 4)):
+            data = rules.file_bytes(*meshes.small_mesh(rng))
+            way = rng.random()
+            if way < 0.3:
+                data = meshes.damaged_file(rng, data)
+            elif way < 0.45:
+                data = meshes.faulty_file(rng)
+            elif way < 0.6:
+                frame = rules.read_file(data)[2]
+                need = 6 + len(frame[2]) * (frame[0] + 2)
+                self.use([rng.randrange(1 << 32) for _ in range(need + rng.choice((-1, 0, 1)))])
+            self.load(data)
+            for _ in range(rng.randrange(7)):
+                self.step(0.6)
+
+    def strange_run(self):
+        rng = self.rng
+        way = rng.random()
+        if way < 0.15:
+            self.use(meshes.tiny_book(rng))
+        elif way < 0.6:
+            self.use(meshes.lying_book(rng, rng.choice((3, 30, 300))))
+        if rng.random() < 0.6:
+            self.use(meshes.damaged_book(rng, self.book))
+        for _ in range(rng.randrange(1, 6)):
+            self.step(0.5)
+
+    def full_size(self):
+        """Meshes of the full size: whole, and one vertex, one cell or one word too many."""
+        rng = self.rng
+        whole = meshes.random_mesh(rng, 3, 8192, 4096)
+        for mesh in (whole, meshes.sheet(45, 45), meshes.box(8, 8, 10), meshes.fan(4098), meshes.random_mesh(rng, 1, 8192, 4096)):
+            data = rules.file_bytes(*mesh)
+            need = 6 + len(mesh[2]) * (mesh[0] + 2)
+            for room in (need - 1, need, 400000):
+                self.use([0xFFFFFFFF] * room)
+                self.load(data)
+            for size in (len(data) - 1, len(data), len(data) + 3):
+                self.write(size)
+            for d in range(mesh[0] + 1):
+                for e in range(mesh[0] + 1):
+                    if self.makes and not (d == e and mesh[0] == 2 and len(mesh[2]) == 4096):
+                        self.relation("ask", d, e)
+                    self.row(d, e, 0)
+                    self.row(d, e, mesh[1] - 1)
+            self.euler()
+            self.held_count()
+        many = bytearray(rules.file_bytes(*whole))
+        for at in (0, 2):
+            more = bytearray(many)
+            more[at] |= 0x3F if at == 0 else 0xFF
+            self.load(bytes(more))
+
+    def run(self, full):
+        if full:
+            self.full_size()
+        while self.left > 0:
+            if self.rng.random() < 0.6:
+                self.true_run()
+            else:
+                self.strange_run()
+
+
+def main():
+    words = argparse.ArgumentParser(description=__doc__, formatter_class=argparse.RawDescriptionHelpFormatter)
+    words.add_argument("--calls", type=int, default=20000)
+    words.add_argument("--seed", type=int, default=1)
+    words.add_argument("--full", action="store_true")
+    given = words.parse_args()
+    command, makes = built()
+    runs = Runs(given.seed, Library(command), given.calls, makes)
+    runs.run(given.full)
+    for name, row in runs.table.items():
+        print("%-10s %s" % (name, "  ".join("%d: %d" % (n, row[n]) for n in sorted(row))))
+    print("compare: %d calls agree, seed %d" % (runs.made, given.seed))
+
+
+if __name__ == "__main__":
+    main()

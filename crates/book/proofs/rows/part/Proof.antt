@@ -1,0 +1,55 @@
+-- The start and the length are cut at the book's end, and the part lies four bytes to a word behind the book's start.
+use mathlib.Core.Path.{refl}
+use native.Mathlib.Omega.{arith}
+use borrow.Author.Needs.{needs}
+use Rattle.rules.proofs.Steps.{cut}
+use Rattle.book.proofs.rows.part.Statement.{statement}
+use Rattle.book.proofs.rows.part.Tie as tie
+
+lesser-requires : tie.Need-lesser-requires
+lesser-requires c κs = search needs
+
+sub-lesser : tie.Need-sub-lesser
+sub-lesser c = search needs
+
+lesser-requires-2 : tie.Need-lesser-requires-2
+lesser-requires-2 c κs = search needs
+
+add-end : tie.Need-add-end
+add-end c = search needs
+
+mul-result : tie.Need-mul-result
+mul-result c = search needs
+
+sub-result : tie.Need-sub-result
+sub-result c = search needs
+
+part-result-start : tie.Need-part-result-start
+part-result-start c = search needs
+
+part-result-end : tie.Need-part-result-end
+part-result-end c = search needs
+
+returns : tie.Need-returns
+returns c =
+    let a = c .before .before .before .before .args in
+    let e = c .before .before .lesser .ensures in
+    record {
+      words = cut (a .book .now) (a .at .0) (a .n) (c .before .before .lesser .result) (c .before .lesser2 .result) e (c .before .lesser2 .ensures);
+      block = refl;
+      start = omega (arith, e);
+    }
+
+pub part-spec : {M : Type 1} → statement M
+part-spec =
+    tie.close
+    (tie.spec
+    lesser-requires
+    sub-lesser
+    lesser-requires-2
+    add-end
+    mul-result
+    sub-result
+    part-result-start
+    part-result-end
+    returns)

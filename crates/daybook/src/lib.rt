@@ -1,0 +1,50 @@
+// The library: a day's mesh in a book of lent 32-bit words, and who touches whom in it.
+//
+// A book is a slice of words that the caller lends to each call; the library keeps nothing and
+// allocates nothing. `load` fills it from a day file; a loaded mesh takes 6 + N_D + N_D (D + 1)
+// words, and each relation more takes N_d + 1 words and one for each index. A call that does not
+// fit is refused and alters nothing.
+//
+// Word 0 is the file's first 32 bits, word 1 the sum of 2^(4d+e) over the relations d→e held,
+// words 2 and 3 are N_1 and N_2 where they are known, word 4 is the used length, and behind them
+// stand the relations by ascending 4d+e: N_d + 1 offsets, then the indices. Row i runs from offset
+// i up to, but without, offset i + 1. All words from the used length on are 0.
+//
+// No call asks anything of its caller. On a refusal no lent word or byte is altered.
+//
+// | no. | given exactly when                                          | by                      |
+// |-----|-------------------------------------------------------------|-------------------------|
+// | 1   | the file is under 4 bytes                                   | load                    |
+// | 2   | D is 0                                                      | load                    |
+// | 3   | N_0 is over 8,192                                           | load                    |
+// | 4   | N_D is over 4,096                                           | load                    |
+// | 5   | spare bits are set                                          | load                    |
+// | 6   | the file's length is wrong                                  | load                    |
+// | 7   | a vertex is N_0 or more; with the lowest such cell          | load                    |
+// | 8   | a cell names a vertex twice; with the lowest such cell      | load                    |
+// | 9   | bits after the last vertex are set                          | load                    |
+// | 10  | the frame rule is broken                                    | all but load            |
+// | 11  | the row rule is broken; for a row, its own offsets alone    | write, euler, row       |
+// | 12  | d or e is over D                                            | row                     |
+// | 13  | the used length afterwards would pass the book's length     | load                    |
+// | 15  | something that is needed is not held                        | euler                   |
+// | 16  | the relation is not held                                    | row                     |
+// | 17  | i is N_d or more                                            | row                     |
+// | 18  | the byte buffer is shorter than the file                    | write                   |
+mod answers;
+mod load;
+mod numbers;
+mod rows;
+mod write;
+
+pub use answers::Counted;
+pub use answers::EulerNumber;
+pub use answers::Loaded;
+pub use answers::Written;
+pub use load::load;
+pub use numbers::euler;
+pub use numbers::held_count;
+pub use rows::row;
+pub use rows::row_number;
+pub use rows::row_start;
+pub use write::write;

@@ -1,0 +1,5 @@
+pub mod Answers
+pub mod Bounds
+pub mod Filled
+pub mod Four
+pub mod Network

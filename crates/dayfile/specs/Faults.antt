@@ -1,0 +1,44 @@
+-- The faults of a file: document 01's number for each, and the cell that comes with 7 and 8.
+use Prim.Native.Nat.{ℕ, zero, suc}
+use Rattle.dayfile.specs.declared.kinds.Cell.{Cell}
+use Rattle.dayfile.specs.declared.kinds.Fault.{Fault}
+use Rattle.dayfile.specs.declared.kinds.Fault.the-variants.{None, Short, NoDimension, ManyVertices, ManyCells, SpareBits, WrongLength, VertexOut, VertexTwice, BitsAfter}
+
+-- the number of a fault, 0 for none
+unfoldable pub faultNumber : Fault → ℕ
+faultNumber None = 0
+faultNumber Short = 1
+faultNumber NoDimension = 2
+faultNumber ManyVertices = 3
+faultNumber ManyCells = 4
+faultNumber SpareBits = 5
+faultNumber WrongLength = 6
+faultNumber (VertexOut c) = 7
+faultNumber (VertexTwice c) = 8
+faultNumber BitsAfter = 9
+
+-- the cell that a fault carries, 0 where it carries none
+unfoldable pub cellNumber : Fault → ℕ
+cellNumber None = 0
+cellNumber Short = 0
+cellNumber NoDimension = 0
+cellNumber ManyVertices = 0
+cellNumber ManyCells = 0
+cellNumber SpareBits = 0
+cellNumber WrongLength = 0
+cellNumber (VertexOut c) = c .0
+cellNumber (VertexTwice c) = c .0
+cellNumber BitsAfter = 0
+
+-- the fault with that number and, for 7 and 8, that cell
+unfoldable pub faultOf : ℕ → ℕ → Fault
+faultOf zero c = None
+faultOf (suc zero) c = Short
+faultOf (suc (suc zero)) c = NoDimension
+faultOf (suc (suc (suc zero))) c = ManyVertices
+faultOf (suc (suc (suc (suc zero)))) c = ManyCells
+faultOf (suc (suc (suc (suc (suc zero))))) c = SpareBits
+faultOf (suc (suc (suc (suc (suc (suc zero)))))) c = WrongLength
+faultOf (suc (suc (suc (suc (suc (suc (suc zero))))))) c = VertexOut (record { 0 = c })
+faultOf (suc (suc (suc (suc (suc (suc (suc (suc zero)))))))) c = VertexTwice (record { 0 = c })
+faultOf (suc (suc (suc (suc (suc (suc (suc (suc (suc n))))))))) c = BitsAfter

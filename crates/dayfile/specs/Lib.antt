@@ -1,0 +1,3 @@
+pub mod Faults
+pub mod Fields
+pub mod Order

@@ -1,0 +1,99 @@
+-- Demand 3, part by part, and the round trip: what is promised of a book after any sequence of calls, and of any right book.
+use mathlib.Core.Path.{_≡_}
+use mathlib.Core.Bool.{true, not, _||_}
+use mathlib.Core.List.{List, [], _∷_, map}
+use Prim.Native.Nat.{ℕ, _/_, _%_, _^_, _≤_, _<_}
+use lib.ListN.{length, getD}
+use lib.Dec.{eqb}
+use Rattle.rules.specs.Lists.{anyOf, allOf, has, inside, sorted}
+use Rattle.rules.specs.File.{fileDim, fileVertices, cellsInFile}
+use Rattle.rules.specs.Book.{key, named, held, count, rowOf, rowsOf, frameRight, rowsRight}
+use Rattle.rules.specs.Calls.{loadNumber, loadWords, makeNumber, makeWords, askNumber, askWords, rowNumber, rowPart, written, writeNumber, eulerNumber, heldNumber}
+use Rattle.rules.specs.Truth.{Mesh, meshOf, number, trueRows, trueBook}
+use Rattle.rules.specs.Sequence.{Reached}
+use Rattle.promises.specs.Plan.{makePlan, askPlan, rowPlan, writePlan, eulerPlan}
+
+-- ==== demand 3, part by part
+-- every relation held is the true incidence of the last accepted mesh
+abbrev pub HeldTrue : Type 0
+HeldTrue = (m : Mesh) (ws : List ℕ) → Reached m ws → (k : ℕ) → held ws k ≡ true → rowsOf ws k ≡ trueRows m (k / 4) (k % 4)
+
+-- the edges and faces that are not cells are all different vertex sets
+abbrev pub Different : Type 0
+Different = (m : Mesh) (ws : List ℕ) → Reached m ws → (d i j : ℕ) → 0 < d → d < m .dims → held ws (key d 0) ≡ true
+    → i < count ws d → j < count ws d → rowOf ws (key d 0) i ≡ rowOf ws (key d 0) j → i ≡ j
+
+-- and each lies inside some cell
+abbrev pub InSomeCell : Type 0
+InSomeCell = (m : Mesh) (ws : List ℕ) → Reached m ws → (d i : ℕ) → 0 < d → d < m .dims → held ws (key d 0) ≡ true
+    → i < count ws d → anyOf (inside (rowOf ws (key d 0) i)) (m .cells) ≡ true
+
+-- where a relation and its reverse are both held, one lists a pair exactly when the other does
+abbrev pub BothWays : Type 0
+BothWays = (m : Mesh) (ws : List ℕ) → Reached m ws → (d e i j : ℕ) → d ≤ m .dims → e ≤ m .dims → held ws (key d e) ≡ true → held ws (key e d) ≡ true
+    → i < count ws d → j < count ws e → has j (rowOf ws (key d e) i) ≡ has i (rowOf ws (key e d) j)
+
+-- every index of a relation held is a valid row number in its own dimension, and that dimension's count is the mesh's
+abbrev pub Valid : Type 0
+Valid = (m : Mesh) (ws : List ℕ) → Reached m ws → (d e i j : ℕ) → d ≤ m .dims → e ≤ m .dims → held ws (key d e) ≡ true
+    → i < count ws d → has j (rowOf ws (key d e) i) ≡ true → (j < count ws e) × (count ws e ≡ number m e)
+
+-- the same of every index that Row gives out, whatever it is asked
+abbrev pub GivenOut : Type 0
+GivenOut = (m : Mesh) (ws : List ℕ) → Reached m ws → (d e i j : ℕ) → has j (rowPart ws d e i) ≡ true → (j < count ws e) × (count ws e ≡ number m e)
+
+-- the words of the book depend only on its length, that mesh and which relations are held
+abbrev pub Determined : Type 0
+Determined = (m : Mesh) (ws : List ℕ) → Reached m ws → ws ≡ trueBook (length ws) m (getD ws 1 0)
+
+-- the same of two books: equal length, mesh and relations held make equal words
+abbrev pub Alike : Type 0
+Alike = (m : Mesh) (ws vs : List ℕ) → Reached m ws → Reached m vs → length ws ≡ length vs → ((k : ℕ) → k < 16 → held ws k ≡ held vs k) → ws ≡ vs
+
+-- the frame rule and the row rule hold, and no call gives 10 or 11
+abbrev pub NothingElse : Type 0
+NothingElse = (m : Mesh) (ws : List ℕ) → Reached m ws → (frameRight ws ≡ true) × (rowsRight ws ≡ true) × ((d e i : ℕ) (bs : List ℕ)
+    → allOf (λ n. not (eqb n 10 || eqb n 11)) (makeNumber ws d e ∷ askNumber ws d e ∷ rowNumber ws d e i ∷ writeNumber ws bs ∷ eulerNumber ws ∷ heldNumber ws ∷ []) ≡ true)
+
+-- the mask is the set of relations that the book holds
+pub record Holds (ws : List ℕ) (mask : ℕ) : Type 0 where
+  pub small : mask < 2 ^ 16
+  pub names : (k : ℕ) → k < 16 → named mask k ≡ held ws k
+
+-- each call's number is the one planned from the book's length, the mesh and the set of relations held
+abbrev pub Planned : Type 0
+Planned = (m : Mesh) (ws : List ℕ) → Reached m ws → (mask : ℕ) → Holds ws mask → (d e i : ℕ) (bs : List ℕ)
+    → (makeNumber ws d e ≡ makePlan (length ws) m mask d e)
+    × (askNumber ws d e ≡ askPlan (length ws) m mask d e)
+    × (rowNumber ws d e i ≡ rowPlan m mask d e i)
+    × (writeNumber ws bs ≡ writePlan (length bs) m)
+    × (eulerNumber ws ≡ eulerPlan m mask)
+    × (heldNumber ws ≡ 0)
+
+-- ==== books that somebody else wrote
+-- on any book whose frame and rows are right, Make and Ask leave a book whose frame and rows are right
+abbrev pub StaysRight : Type 0
+StaysRight = (ws : List ℕ) → frameRight ws ≡ true → rowsRight ws ≡ true → (d e : ℕ)
+    → (frameRight (makeWords ws d e) ≡ true) × (rowsRight (makeWords ws d e) ≡ true)
+    × (frameRight (askWords ws d e) ≡ true)
+    × (rowsRight (askWords ws d e) ≡ true)
+
+-- ==== the round trip
+-- from an accepted file: the file that Write gives has the same D and N_0, and the same cells in their order, each ascending
+abbrev pub FileBack : Type 0
+FileBack = (f ws : List ℕ) → loadNumber f ws ≡ 0
+    → (fileDim (written (loadWords f ws)) ≡ fileDim f) × (fileVertices (written (loadWords f ws)) ≡ fileVertices f) × (cellsInFile (written (loadWords f ws)) ≡ map sorted (cellsInFile f))
+
+-- from any sequence of calls: the file that Write gives has the last accepted mesh, and a book that is as long accepts it
+abbrev pub MeshBack : Type 0
+MeshBack = (m : Mesh) (ws : List ℕ) → Reached m ws
+    → (cellsInFile (written ws) ≡ m .cells) × (meshOf (written ws) ≡ m) × ((vs : List ℕ) → length ws ≤ length vs → loadNumber (written ws) vs ≡ 0)
+
+-- Load, Write, Load: in a book of the same length, the same words
+abbrev pub WordsBack : Type 0
+WordsBack = (f ws vs : List ℕ) → loadNumber f ws ≡ 0 → length vs ≡ length ws
+    → (loadNumber (written (loadWords f ws)) vs ≡ 0) × (loadWords (written (loadWords f ws)) vs ≡ loadWords f ws)
+
+-- Write never gives 18 for a buffer as long as a file from which the mesh was loaded
+abbrev pub RoomToWrite : Type 0
+RoomToWrite = (f us ws bs : List ℕ) → loadNumber f us ≡ 0 → Reached (meshOf f) ws → length f ≤ length bs → writeNumber ws bs ≡ 0

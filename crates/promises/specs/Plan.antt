@@ -1,0 +1,55 @@
+-- What a caller can plan by: each call's number, from the book's length, the mesh and the set of relations held alone. No word of a book is in it.
+use mathlib.Core.Bool.{cond, not, _&&_, _||_}
+use mathlib.Core.List.{List, [], _∷_}
+use Prim.Native.Nat.{ℕ, zero, suc, _+_, _/_, _%_, _^_}
+use lib.ListN.{length}
+use lib.Dec.{ltb, leb}
+use Rattle.rules.specs.Lists.{allOf}
+use Rattle.rules.specs.File.{lengthOf}
+use Rattle.rules.specs.Book.{key, named, needs}
+use Rattle.rules.specs.Calls.{rule, firstBroken}
+use Rattle.rules.specs.Truth.{Mesh, number, trueBook}
+
+-- how many words the true relations that the mask names take, with the head
+unfoldable pub wordsFor : Mesh → ℕ → ℕ
+wordsFor m mask = length (trueBook 0 m mask)
+
+-- the masks after f for each key in turn
+unfoldable pub maskThrough : (ℕ → ℕ → ℕ) → ℕ → List ℕ → ℕ
+maskThrough f mask [] = mask
+maskThrough f mask (k ∷ ks) = maskThrough f (f mask k) ks
+
+-- the mask with key k: as it is where k is named, else with all that it is made from, and then with it; n bounds the depth
+unfoldable pub maskWith : ℕ → ℕ → ℕ → ℕ → ℕ
+maskWith zero D mask k = mask
+maskWith (suc n) D mask k = cond (named mask k) mask (maskThrough (maskWith n D) mask (needs D (k / 4) (k % 4)) + 2 ^ k)
+
+-- Make in a book of n words: 12 if d or e is over D, else 14 if held, else 15 if a need is missing, else 13 if the true book with it is longer than the book, else 0
+unfoldable pub makePlan : ℕ → Mesh → ℕ → ℕ → ℕ → ℕ
+makePlan n m mask d e =
+    firstBroken
+    (rule (ltb (m .dims) d || ltb (m .dims) e) 12
+    ∷ rule (named mask (key d e)) 14
+    ∷ rule (not (allOf (named mask) (needs (m .dims) d e))) 15
+    ∷ rule (ltb n (wordsFor m (mask + 2 ^ key d e))) 13
+    ∷ [])
+    0
+
+-- Ask in a book of n words: 12 if d or e is over D, else 13 if the true book with it and what it is made from is longer than the book, else 0
+unfoldable pub askPlan : ℕ → Mesh → ℕ → ℕ → ℕ → ℕ
+askPlan n m mask d e =
+    firstBroken (rule (ltb (m .dims) d || ltb (m .dims) e) 12 ∷ rule (ltb n (wordsFor m (maskWith 6 (m .dims) mask (key d e)))) 13 ∷ []) 0
+
+-- Row: 12 if d or e is over D, else 16 if d→e is not held, else 17 if there is no entity (d, i), else 0
+unfoldable pub rowPlan : Mesh → ℕ → ℕ → ℕ → ℕ → ℕ
+rowPlan m mask d e i =
+    firstBroken (rule (ltb (m .dims) d || ltb (m .dims) e) 12 ∷ rule (not (named mask (key d e))) 16 ∷ rule (leb (number m d) i) 17 ∷ []) 0
+
+-- Write to n bytes: 18 if the mesh's file is longer, else 0
+unfoldable pub writePlan : ℕ → Mesh → ℕ
+writePlan n m = firstBroken (rule (ltb n (lengthOf (m .dims) (length (m .cells)))) 18 ∷ []) 0
+
+-- Euler: 15 if d→0 is not held for some 0 < d < D, else 0
+unfoldable pub eulerPlan : Mesh → ℕ → ℕ
+eulerPlan m mask =
+    firstBroken (rule ((ltb 1 (m .dims) && not (named mask (key 1 0))) || (ltb 2 (m .dims) && not (named mask (key 2 0)))) 15 ∷ []) 0

@@ -1,0 +1,106 @@
+-- Searches: the first member that passes a test, and a member that stands twice.
+use mathlib.Core.Path.{_≡_, refl, sym, _∙_}
+use mathlib.Core.Logic.{_⊎_, inl, inr}
+use mathlib.Core.Bool.{Bool, true, false, cond, _||_}
+use mathlib.Core.List.{List, [], _∷_, _++_, map, List·Memᴰ as In, List·Memᴰ·head as here, List·Memᴰ·tail as there}
+use Prim.Native.Nat.{ℕ, zero, suc, _+_, _≤_, _<_}
+use native.Mathlib.Nat.{add-zero}
+use native.Mathlib.Numerals.{add-one}
+use native.Mathlib.Omega.{arith}
+use lib.ListN.{length, getD, drop, List·getD-append}
+use lib.Seq.{drop-cons, drop-length}
+use lib.Dec.{ltb}
+use borrow.Author.Tests.{ltb-true, lt-ltb}
+use Rattle.rules.specs.Lists.{upTo, anyOf, firstAt, has}
+use Rattle.rules.specs.File.{twice}
+use Rattle.rules.proofs.Tests.{agree, or-right, has-of, has-is, cases, getD-in}
+use Rattle.rules.proofs.Numbered.{last-or-below, length-rows, getD-rows}
+
+module _ {ℓ} {A : Type ℓ} (p : A → Bool) where
+  -- some member passes exactly when the first that does lies within the list
+  pub any-first : (xs : List A) → anyOf p xs ≡ ltb (firstAt p xs) (length xs)
+  unfolding anyOf firstAt
+  any-first [] = refl
+  any-first (x ∷ xs) = go (p x) (any-first xs)
+    where
+      more : (a b : ℕ) → ltb (suc a) (suc b) ≡ ltb a b
+      more a b =
+          agree (ltb (suc a) (suc b)) (ltb a b) (λ h. let l = ltb-true (suc a) (suc b) h in lt-ltb a b (omega arith)) (λ h. let l = ltb-true a b h in lt-ltb (suc a) (suc b) (omega arith))
+
+      go : (b : Bool) → anyOf p xs ≡ ltb (firstAt p xs) (length xs) → (b || anyOf p xs) ≡ ltb (cond b 0 (suc (firstAt p xs))) (suc (length xs))
+      go true e = sym (lt-ltb 0 (suc (length xs)) (omega arith))
+      go false e = e ∙ sym (more (firstAt p xs) (length xs))
+
+  -- rows given by their number, from row c on
+  module _ (f : ℕ → A) (n c : ℕ) where
+    rest : c < n → drop c (map f (upTo n)) ≡ f c ∷ drop (suc c) (map f (upTo n))
+    rest l = drop-cons (map f (upTo n)) c (f c) (rw length-rows l) ∙ rw (getD-rows f n c (f c) l)
+
+    pub first-passed : c < n → p (f c) ≡ false → c + firstAt p (drop c (map f (upTo n))) ≡ c + 1 + firstAt p (drop (c + 1) (map f (upTo n)))
+    first-passed l e =
+        let r : firstAt p (drop c (map f (upTo n))) ≡ suc (firstAt p (drop (suc c) (map f (upTo n)))) = rw (rest l) (unfold firstAt in rw e) in
+        rw (r, add-one c) (omega arith)
+
+    pub first-found : c < n → p (f c) ≡ true → c + firstAt p (drop c (map f (upTo n))) ≡ c
+    first-found l e = rw (rest l) (unfold firstAt in rw (e, add-zero))
+
+    pub first-none : n ≤ c → c ≤ n → c + firstAt p (drop c (map f (upTo n))) ≡ c
+    first-none l h =
+        let e : drop c (map f (upTo n)) ≡ [] = let q : c ≡ length (map f (upTo n)) = rw length-rows (omega arith) in rw q (drop-length (map f (upTo n))) in
+        rw e (unfold firstAt in add-zero c)
+
+-- ---- a member that stands twice
+-- of any two places below n, the members differ
+abbrev pub Apart : List ℕ → ℕ → Type 0
+Apart xs n = (b : ℕ) → b < n → (a : ℕ) → a < b → getD xs a 0 ≡ getD xs b 0 → ⊥
+
+pub twice-at : (xs : List ℕ) (a b : ℕ) → a < b → b < length xs → getD xs a 0 ≡ getD xs b 0 → twice xs ≡ true
+unfolding twice
+twice-at [] a b l h e = absurd (omega arith)
+twice-at (x ∷ xs) zero zero l h e = absurd (omega arith)
+twice-at (x ∷ xs) zero (suc b) l h e = let i = has-of (getD-in xs b 0 (omega arith)) in let k : has x xs ≡ true = rw (← e) at i in rw k
+twice-at (x ∷ xs) (suc a) zero l h e = absurd (omega arith)
+twice-at (x ∷ xs) (suc a) (suc b) l h e = or-right (has x xs) (twice xs) (twice-at xs a b (omega arith) (omega arith) e)
+
+place-of : (x : ℕ) (xs : List ℕ) → has x xs ≡ true → (b : ℕ) × (b < length xs) × (x ≡ getD xs b 0)
+place-of x xs h = go xs (has-is x xs h)
+  where
+    go : (ys : List ℕ) → In x ys → (b : ℕ) × (b < length ys) × (x ≡ getD ys b 0)
+    go (y ∷ ys) (here e) = (0, omega arith, e)
+    go (y ∷ ys) (there i) = let (b, l, e) = go ys i in (suc b, omega arith, e)
+
+pub apart-once : (xs : List ℕ) → Apart xs (length xs) → twice xs ≡ false
+unfolding twice
+apart-once [] f = refl
+apart-once (x ∷ xs) f = rw (absent (cases (has x xs)), apart-once xs (λ b l a k e. f (suc b) (omega arith) (suc a) (omega arith) e))
+  where
+    absent : (has x xs ≡ true) ⊎ (has x xs ≡ false) → has x xs ≡ false
+    absent (inl h) = let (b, l, e) = place-of x xs h in absurd (f (suc b) (omega arith) 0 (omega arith) e)
+    absent (inr h) = h
+
+-- ---- some member from place k on passes
+module _ {ℓ} {A : Type ℓ} (p : A → Bool) (xs : List A) (d : A) (k : ℕ) where
+  pub any-passed : k < length xs → p (getD xs k d) ≡ false → anyOf p (drop k xs) ≡ anyOf p (drop (k + 1) xs)
+  any-passed l e = rw (add-one k, drop-cons xs k d l) (unfold anyOf in rw e)
+
+  pub any-found : k < length xs → p (getD xs k d) ≡ true → anyOf p (drop k xs) ≡ true
+  any-found l e = rw (drop-cons xs k d l) (unfold anyOf in rw e)
+
+  pub any-end : length xs ≡ k → anyOf p (drop k xs) ≡ false
+  any-end e = rw (← e, drop-length xs) (unfold anyOf in refl)
+
+-- one member more that is apart from those before it
+pub apart-more : (xs : List ℕ) (j : ℕ) → Apart xs j → ((a : ℕ) → a < j → getD xs a 0 ≡ getD xs j 0 → ⊥) → Apart xs (j + 1)
+apart-more xs j f g b l a k e = go (last-or-below b j (rw add-one at l))
+  where
+    go : (b ≡ j) ⊎ (b < j) → ⊥
+    go (inl q) = g a (omega arith) (rw q at e)
+    go (inr h) = f b h a k e
+
+-- the members of a list's front
+pub apart-front : (xs ys : List ℕ) → Apart (xs ++ ys) (length xs) → twice xs ≡ false
+apart-front xs ys f =
+    apart-once xs (λ b l a k e. f b l a k (List·getD-append xs ys 0 a (omega arith) ∙ e ∙ sym (List·getD-append xs ys 0 b l)))
+
+pub twice-front : (xs ys : List ℕ) (a b : ℕ) → a < b → b < length xs → getD (xs ++ ys) a 0 ≡ getD (xs ++ ys) b 0 → twice xs ≡ true
+twice-front xs ys a b k l e = twice-at xs a b k l (sym (List·getD-append xs ys 0 a (omega arith)) ∙ e ∙ List·getD-append xs ys 0 b l)

@@ -1,0 +1,5 @@
+pub mod Mirrors
+pub mod Settling
+pub mod Clearing
+pub mod Placed
+pub mod Lowering

@@ -1,0 +1,46 @@
+-- Four stores.
+use mathlib.Core.Path.{refl}
+use native.Mathlib.Omega.{arith}
+use lib.ListN.{length-set}
+use Rattle.settle.specs.Settled.{headed}
+use borrow.Author.Needs.{needs}
+use Rattle.settle.proofs.set_head.Statement.{statement}
+use Rattle.settle.proofs.set_head.Tie as tie
+use Rattle.settle.proofs.set_head.Reads as reads
+use Rattle.settle.proofs.set_head.Lts as lts
+
+-- src/lib.rt:61:5
+slice-write-book : tie.Need-slice-write-book
+slice-write-book c = search needs
+
+-- src/lib.rt:62:5
+slice-write-book-2 : tie.Need-slice-write-book-2
+slice-write-book-2 c = simp length-set (omega arith)
+
+-- src/lib.rt:63:5
+slice-write-book-3 : tie.Need-slice-write-book-3
+slice-write-book-3 c = simp length-set (omega arith)
+
+-- src/lib.rt:64:5
+slice-write-book-4 : tie.Need-slice-write-book-4
+slice-write-book-4 c = simp length-set (omega arith)
+
+-- src/lib.rt:57:1
+same-length : tie.Need-same-length
+same-length c = simp length-set
+
+-- src/lib.rt:57:1
+returns : tie.Need-returns
+unfolding headed
+returns c = refl
+
+pub set-head-spec : {M : Type 1} → statement M
+set-head-spec =
+    tie.close
+    (tie.spec
+    slice-write-book
+    slice-write-book-2
+    slice-write-book-3
+    slice-write-book-4
+    same-length
+    returns)

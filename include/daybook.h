@@ -1,0 +1,94 @@
+/*
+ * daybook: a day's mesh of triangles or tetrahedra, and who touches whom in it.
+ *
+ * A mesh has a dimension D (1, 2 or 3), N_0 vertices (at most 8,192) and N_D cells
+ * (at most 4,096): intervals, triangles or tetrahedra. An entity is a pair (d, i): d = 0 is a
+ * vertex, d = D a cell, d = 1 an edge, d = 2 a face; i counts within its own dimension.
+ * The relation d -> e lists, for each entity (d, i), the entities of dimension e that touch it.
+ *
+ * THE BOOK is an array of 32-bit words that you lend to each call. It holds one mesh and the
+ * relations made so far:
+ *
+ *   word 0      the day file's first 32 bits: D (2 bits), N_0 (14), N_D (13), 3 zero bits
+ *   word 1      the sum of 2^(4d+e) over the relations d -> e that are held
+ *   words 2, 3  N_1 and N_2, each only where 0 < d < D and d -> 0 is held, else 0
+ *   word 4      the used length in words
+ *   words 5..   the relations held, by ascending 4d+e, each N_d + 1 offsets and then its indices
+ *
+ * Row i of a relation runs from offset i up to, but without, offset i + 1, and ascends strictly.
+ * All words from the used length on are 0.
+ *
+ * HOW MANY WORDS. A loaded mesh takes 6 + N_D + N_D (D + 1) words. Each relation more takes
+ * N_d + 1 words and one for each index. A call that does not fit is refused with
+ * DAYBOOK_NO_ROOM and alters nothing, so a larger book can be lent and filled by daybook_load again.
+ *
+ * THE RESULT of each call is 0 where it was accepted, else the number of the first refusal that
+ * applies, in the order given at the call. A refusal alters no word or byte that you lent.
+ * What an out pointer points to is written only where the text says so, and else left alone.
+ *
+ * OWNERSHIP. Nothing is allocated, nothing is global, nothing is kept after a call returns: the
+ * book, the file and the buffers stay yours. Calls on different books may run side by side in
+ * threads. In one call no two of the lent places may overlap, and no pointer may be null but for
+ * an array of length 0 (which may then be any pointer that is not null, properly aligned).
+ *
+ * Each function is proved: for every file, book and number it returns without a fault, with
+ * exactly the result and the words that the rules give.
+ */
+#ifndef DAYBOOK_H
+#define DAYBOOK_H
+
+#include <stddef.h>
+#include <stdint.h>
+
+#ifdef __cplusplus
+extern "C" {
+#endif
+
+enum {
+    DAYBOOK_ACCEPTED = 0,          /* the call was accepted */
+    DAYBOOK_FILE_TOO_SHORT = 1,    /* the file has fewer than 4 bytes */
+    DAYBOOK_NO_DIMENSION = 2,      /* D is 0 */
+    DAYBOOK_MANY_VERTICES = 3,     /* N_0 is over 8,192 */
+    DAYBOOK_MANY_CELLS = 4,        /* N_D is over 4,096 */
+    DAYBOOK_SPARE_BITS = 5,        /* a spare bit of the file's head is set */
+    DAYBOOK_FILE_LENGTH = 6,       /* the file is not 4 + ceil(13 (D + 1) N_D / 8) bytes long */
+    DAYBOOK_VERTEX_OUT = 7,        /* a cell names a vertex that is N_0 or more; the lowest such cell is given */
+    DAYBOOK_VERTEX_TWICE = 8,      /* a cell names a vertex twice; the lowest such cell is given */
+    DAYBOOK_BITS_AFTER = 9,        /* a bit after the last vertex is set */
+    DAYBOOK_FRAME_BROKEN = 10,     /* the book's head words or the sizes of its relations break the frame rule */
+    DAYBOOK_ROWS_BROKEN = 11,      /* the book's offsets, indices or free words break the row rule */
+    DAYBOOK_DIMENSION_OVER = 12,   /* d or e is over D */
+    DAYBOOK_NO_ROOM = 13,          /* the used length afterwards would pass the book's length */
+    DAYBOOK_ALREADY_HELD = 14,     /* the relation is held already */
+    DAYBOOK_NEED_MISSING = 15,     /* something that is needed is not held */
+    DAYBOOK_NOT_HELD = 16,         /* the relation is not held */
+    DAYBOOK_NO_SUCH_ENTITY = 17,   /* i is N_d or more */
+    DAYBOOK_BUFFER_TOO_SHORT = 18  /* the byte buffer is shorter than the file */
+};
+
+/* Loads a day file into the book: every word is set, and D -> 0 alone is held. The old book is
+ * not looked at. Refusals: 1 to 9, then 13. With 7 and 8 the cell's number is written to *cell. */
+uint32_t daybook_load(const uint8_t *file, size_t file_len, uint32_t *book, size_t book_len, uint32_t *cell);
+
+/* Finds row i of d -> e: where accepted it is book[*start .. *start + *count], which may be empty.
+ * Refusals: 10, 12, 16, 17, and 11 where the row's own two offsets are not first <= second <= last.
+ * The cost does not depend on the book's size. */
+uint32_t daybook_row(const uint32_t *book, size_t book_len, uint32_t d, uint32_t e, uint32_t i, size_t *start, size_t *count);
+
+/* Writes the day file of the book's mesh, each cell's vertices ascending, and its length to
+ * *length where accepted. Later bytes stay as they were. Refusals: 10, 11, 18. */
+uint32_t daybook_write(const uint32_t *book, size_t book_len, uint8_t *bytes, size_t bytes_len, size_t *length);
+
+/* Writes the Euler number to *number where accepted: N_0 - N_1, N_0 - N_1 + N_2 or
+ * N_0 - N_1 + N_2 - N_3 for D = 1, 2 or 3. Needs d -> 0 for every 0 < d < D.
+ * Refusals: 10, 11, 15. */
+uint32_t daybook_euler(const uint32_t *book, size_t book_len, int64_t *number);
+
+/* Writes the number of relations held to *count where accepted. Refusal: 10. */
+uint32_t daybook_held_count(const uint32_t *book, size_t book_len, uint32_t *count);
+
+#ifdef __cplusplus
+}
+#endif
+
+#endif
