@@ -8,8 +8,8 @@ use book::Place;
 
 // A relation that another is made from: `from`→`to` stands at `at`, and has `rows` rows of indices below `below`.
 pub struct Source {
-    pub from: usize,
-    pub to: usize,
+    pub from: u32,
+    pub to: u32,
     pub at: Place,
     pub rows: u32,
     pub below: u32,
