@@ -6,7 +6,7 @@ use Prim.Native.Nat.{ℕ, _+_, _≤_, _<_}
 use lib.ListN.{length, take}
 use lib.Dec.{eqb, ltb}
 use borrow.Author.Tests.{ltb-true}
-use Rattle.rules.specs.Lists.{upTo, anyOf, allOf, keep, has, inside}
+use Rattle.rules.specs.Lists.{anyOf, allOf, has, inside}
 use Rattle.rules.specs.Made.{listedAt}
 use Rattle.rules.proofs.Tests.{left, right}
 use Rattle.rules.proofs.First.{keep-same, keep-length}

@@ -1,13 +1,13 @@
 -- A book that is ready for d→e meets what the code asks of its sources, and what the code writes is d→e as the rules make it.
-use mathlib.Core.Path.{_≡_, refl, sym, ap, _∙_}
+use mathlib.Core.Path.{_≡_, refl, sym}
 use mathlib.Core.Bool.{true}
 use mathlib.Core.List.{List, [], _∷_, map}
-use Prim.Native.Nat.{ℕ, zero, suc, _+_, _/_, _%_, _^_, _≤_, _<_, min}
+use Prim.Native.Nat.{ℕ, zero, suc, _+_, _/_, _^_, _≤_, _<_, min}
 use native.Mathlib.Omega.{arith}
 use lib.ListN.{length, getD}
 use lib.Dec.{ltb}
 use Rattle.rules.specs.Lists.{upTo, allOf, ascends}
-use Rattle.rules.specs.Book.{dim, count, key, held, place, offset, total, needs}
+use Rattle.rules.specs.Book.{dim, count, key, held, place, offset, total}
 use Rattle.rules.specs.Made.{turned, made}
 use Rattle.rules.proofs.Tests.{left, right}
 use Rattle.rules.proofs.Needs.{key-div, key-mod, needs-up, needs-down, needs-across, needs-vertices}
