@@ -1,3 +1,5 @@
 pub mod Flags
 pub mod Listed
 pub mod FrameLeft
+pub mod Needed
+pub mod Determined

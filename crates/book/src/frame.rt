@@ -78,29 +78,53 @@ pub fn needs_of(top: u32, d: u32, e: u32) -> Needs
     }
 }
 
-// Whether each of the needs is held.
-fn all_held(book: &[u32], needs: Needs) -> bool
-    requires { ⌜ needs .count ≤ 3 ⌝ }
-    ensures { λ r. ⌜ r ≡ allOf (rule.held (now (book .entry))) (take (needs .count) (needs .keys)) ⌝ }
+// Whether what d→0 is made from is held: D→0, and for 0→0 also 0→D.
+fn made_from_cells_held(book: &[u32], d: u32) -> bool
+    ensures { λ r. ⌜ r ≡ allOf (rule.held (now (book .entry))) (rule.needs (rule.dim (now (book .entry))) d 0) ⌝ }
 {
-    let keys = needs.keys;
-    let n = needs.count;
-    let mut i: usize = 0;
-    while i < n {
-        if !held(book, keys[i]) {
+    let top = dim(book);
+    if d == 0 {
+        if !held(book, key(0, top)) {
             return false;
         }
-        i += 1;
+        return held(book, key(top, 0));
     }
-    true
+    if d == top {
+        return true;
+    }
+    held(book, key(top, 0))
 }
+
+// What d→e with e > 0 is made from, by its key: the sum of 2^key over the relations named.
+const NEEDED: [u32; 16] = [
+    0,
+    16, // 0→1 from 1→0
+    256, // 0→2 from 2→0
+    4096, // 0→3 from 3→0
+    0,
+    18, // 1→1 from 1→0, 0→1
+    512, // 1→2 from 2→1
+    8192, // 1→3 from 3→1
+    0,
+    274, // 2→1 from 2→0, 0→1, 1→0
+    260, // 2→2 from 2→0, 0→2
+    16384, // 2→3 from 3→2
+    0,
+    4114, // 3→1 from 3→0, 0→1, 1→0
+    4356, // 3→2 from 3→0, 0→2, 2→0
+    4104, // 3→3 from 3→0, 0→3
+];
 
 // Whether what the relation of key k is made from is held.
 fn made_from_held(book: &[u32], k: u32) -> bool
     requires { ⌜ k < 16 ⌝ }
     ensures { λ r. ⌜ r ≡ allOf (rule.held (now (book .entry))) (rule.needs (rule.dim (now (book .entry))) (k / 4) (k % 4)) ⌝ }
 {
-    all_held(book, needs_of(dim(book), k / 4, k % 4))
+    if k % 4 == 0 {
+        return made_from_cells_held(book, k / 4);
+    }
+    let needed = NEEDED[k as usize];
+    word(book, Place(1)) & needed == needed
 }
 
 // Whether the key names only d and e up to D, and what d→e is made from is held.

@@ -155,7 +155,7 @@ fn relation_right(book: &[u32], k: u32, at: Place) -> bool
     rows_of_right(book, k, at)
 }
 
-// Whether all the words are 0, or them together and test once.
+// Whether all the words are 0: they are put together by or, and tested once.
 fn zeros(words: &[u32]) -> bool
     ensures { λ r. ⌜ r ≡ allOf (eqb 0) (now (words .entry)) ⌝ }
 {
@@ -168,7 +168,7 @@ fn zeros(words: &[u32]) -> bool
     together == 0
 }
 
-// Whether all the words from a place on are 0, in runs of 256 words.
+// Whether the free words are 0, looked at in runs of 256.
 fn free_right(book: &[u32]) -> bool
     ensures { λ r. ⌜ r ≡ allOf (eqb 0) (drop (getD (now (book .entry)) 4 0) (now (book .entry))) ⌝ }
 {

@@ -1,5 +1,5 @@
 -- What holds of any words below 2^32, right or not: D is at most 3, no key from 32 on is held, and no count or place is too large for a number of 64 bits.
-use mathlib.Core.Path.{_≡_, refl, sym, _∙_}
+use mathlib.Core.Path.{_≡_, sym, _∙_}
 use mathlib.Core.Bool.{Bool, true, false, cond, _&&_}
 use mathlib.Core.Logic.{inl, inr}
 use mathlib.Core.List.{List, [], _∷_}

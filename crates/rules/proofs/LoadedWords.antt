@@ -44,7 +44,7 @@ module _ (f : List ℕ) where
       getD-map sorted (map (fileCell f) (upTo (fileCells f))) c [] [] (rw (length-rows (fileCell f) (fileCells f)) l)
       ∙ ap sorted (getD-rows (fileCell f) (fileCells f) c [] l)
 
-  row-size : (c : ℕ) → length (sorted (fileCell f c)) ≡ fileDim f + 1
+  pub row-size : (c : ℕ) → length (sorted (fileCell f c)) ≡ fileDim f + 1
   unfolding fileCell
   row-size c = length-sorted _ ∙ length-rows _ (fileDim f + 1)
 

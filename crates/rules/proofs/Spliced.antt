@@ -3,6 +3,7 @@ use mathlib.Core.Path.{_≡_, refl, sym, ap, _∙_}
 use mathlib.Core.List.{List, [], _∷_, _++_, append-assoc, append-nil}
 use Prim.Native.Nat.{ℕ, zero, suc, _+_, _-_, _≤_, _<_}
 use native.Mathlib.Nat.{sub-self, sub-zero}
+use native.Mathlib.Numerals.{add-one}
 use native.Mathlib.Omega.{arith}
 use lib.ListN.{length, getD, take, drop, set, length-append, length-take, length-drop, take-append-drop}
 use lib.Seq.{take-suc, drop-cons, set-at, getD-drop, take-at, drop-at, take-add, drop-drop, take-all, drop-length}
@@ -62,3 +63,34 @@ module _ (a b : ℕ) (ys xs : List ℕ) (low : a ≤ b) (high : b ≤ length xs)
 pub spliced-all : (ys xs : List ℕ) → length ys ≡ length xs → spliced 0 (length xs) ys xs ≡ ys
 unfolding spliced
 spliced-all ys xs e = rw (sub-zero (length xs), take-all (length xs) ys (omega arith), drop-length xs) (append-nil ys)
+
+-- vs is xs with the places from a up to b as ys, which is as long, has them
+pub record Splicing (ys xs : List ℕ) (a b : ℕ) (vs : List ℕ) : Type 0 where
+  pub low : a ≤ b
+  pub high : b ≤ length xs
+  pub same : length ys ≡ length xs
+  pub words : vs ≡ spliced a b ys xs
+
+pub splicing-none : (ys xs : List ℕ) (a : ℕ) → a ≤ length xs → length ys ≡ length xs → Splicing ys xs a a xs
+splicing-none ys xs a l e = record { low = omega arith; high = l; same = e; words = sym (spliced-none a ys xs) }
+
+module _ (ys xs : List ℕ) (a b : ℕ) (vs : List ℕ) (s : Splicing ys xs a b vs) where
+  pub splicing-length : length vs ≡ length xs
+  splicing-length = ap length (s .words) ∙ length-spliced a b ys xs (s .low) (s .high) (s .same)
+
+  pub splicing-more : (x : ℕ) → b < length xs → x ≡ getD ys b 0 → Splicing ys xs a (b + 1) (set vs b x)
+  splicing-more x l e = record {
+    low = omega (arith, s .low);
+    high = omega arith;
+    same = s .same;
+    words = rw (e, s .words, spliced-more a b ys xs (s .low) (s .high) (s .same) l, add-one b);
+  }
+
+  -- a whole part more
+  pub splicing-on : (c : ℕ) (us : List ℕ) → b ≤ c → c ≤ length xs → us ≡ spliced b c ys vs → Splicing ys xs a c us
+  splicing-on c us l m e = record {
+    low = omega (arith, s .low);
+    high = m;
+    same = s .same;
+    words = e ∙ ap (spliced b c ys) (s .words) ∙ spliced-twice a b ys xs (s .low) (s .high) (s .same) c l m;
+  }

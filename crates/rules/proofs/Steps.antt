@@ -1,10 +1,8 @@
 -- Tests over keys, rows and words, as code goes through them one by one: what all passed, and what one failed, says of the whole.
 use mathlib.Core.Path.{_≡_, refl, sym, ap, _∙_}
-use mathlib.Core.Bool.{Bool, true, false, not, _&&_, false≢true}
-use mathlib.Core.Logic.{_⊎_, inl, inr}
+use mathlib.Core.Bool.{Bool, true, false, _&&_, false≢true}
 use mathlib.Core.List.{List, [], _∷_, _++_, map, List·Memᴰ as In, List·Memᴰ·head as In·head, List·Memᴰ·tail as In·tail}
 use Prim.Native.Nat.{ℕ, zero, suc, _+_, _-_, _≤_, _<_, min}
-use native.Mathlib.Nat.{not-suc-le-zero}
 use native.Mathlib.Numerals.{add-one}
 use native.Mathlib.Omega.{arith}
 use native.Mathlib.Decide.{decLt}
@@ -14,10 +12,9 @@ use lib.Bits.{bitOr, or-add-and, and-le-l, and-le-r}
 use lib.Dec.{eqb, ltb, leb}
 use borrow.Author.Tests.{ltb-true, eqb-true, lt-ltb, le-ltb, le-leb, lt-leb, eq-eqb}
 use Rattle.rules.specs.Lists.{upTo, allOf, keep, ascends, rises}
-use Rattle.rules.proofs.Tests.{agree, left, right, and-of, all-of, all-at, all-place, getD-in}
+use Rattle.rules.proofs.Tests.{agree, left, right, and-of, all-of, all-at, all-place}
 use Rattle.rules.proofs.Keep.{keep-of, keep-is, upTo-of, upTo-is}
 use Rattle.rules.proofs.Numbered.{length-rows, getD-rows, all-rows}
-use Rattle.rules.proofs.Distinct.{map-is}
 
 -- a test that is not true is false
 pub not-so : (b : Bool) → (b ≡ true → ⊥) → b ≡ false

@@ -1,12 +1,8 @@
 -- A relation held takes its offsets and its indices, and any other takes no word.
-use mathlib.Core.Path.{_≡_, sym, _∙_}
-use mathlib.Core.Bool.{true, false}
-use Prim.Native.Nat.{ℕ, _+_, _*_, _/_, _^_, _≤_, _<_}
-use native.Mathlib.Numerals.{add-one}
+use Prim.Native.Nat.{ℕ, _^_, _<_}
 use native.Mathlib.Omega.{arith}
 use borrow.Author.Needs.{needs}
 use lib.ListN.{getD}
-use Rattle.rules.specs.Book.{held, count, place, offset, total}
 use Rattle.rules.proofs.AnyWords.{place-low, place-behind, place-passed}
 use Rattle.book.proofs.Flags.{off, on}
 use Rattle.book.proofs.behind.Statement.{statement}

@@ -1,7 +1,6 @@
 -- Each case lists the needs of its rule.
 use mathlib.Core.Path.{_≡_}
-use mathlib.Core.List.{List, [], _∷_}
-use Prim.Native.Nat.{ℕ}
+use mathlib.Core.List.{[], _∷_}
 use native.Mathlib.Omega.{arith}
 use Rattle.rules.specs.Book.{key}
 use Rattle.rules.specs.Book as rule

@@ -6,11 +6,10 @@ use Prim.Native.Nat.{ℕ, _+_, _-_, _/_, _%_, _^_, _≤_, _<_}
 use native.Mathlib.Nat.{add-zero}
 use native.Mathlib.Omega.{arith}
 use borrow.Author.Count.{below-more}
-use borrow.Author.Needs.{needs}
 use lib.ListN.{length, getD, take, drop}
 use lib.Dec.{eqb, ltb}
 use Rattle.rules.specs.Lists.{allOf, ascends}
-use Rattle.rules.specs.Book.{count, place, rowOf, rowsOf, rowRight}
+use Rattle.rules.specs.Book.{count, rowOf, rowsOf, rowRight}
 use Rattle.rules.proofs.AnyWords.{place-low, row-words}
 use Rattle.rules.proofs.Steps.{all-rows-are, all-rows-not}
 use Rattle.book.proofs.Flags.{off, on}

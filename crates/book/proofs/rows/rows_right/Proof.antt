@@ -1,11 +1,10 @@
 -- The invariant: at is where the relation of key k begins, and the relations passed that are held are right.
-use mathlib.Core.Path.{_≡_, refl, sym, ap, _∙_}
-use mathlib.Core.Bool.{Bool, true, false, true≢false, _&&_}
+use mathlib.Core.Path.{_≡_, refl, sym, _∙_}
+use mathlib.Core.Bool.{true, false, true≢false}
 use mathlib.Core.Logic.{⊎-elim}
-use Prim.Native.Nat.{ℕ, _+_, _-_, _≤_, _<_}
+use Prim.Native.Nat.{ℕ, _-_, _≤_, _<_}
 use native.Mathlib.Omega.{arith}
 use borrow.Author.Count.{below-more}
-use Rattle.rules.specs.Lists.{allOf}
 use Rattle.rules.specs.Book.{held, keysHeld, place, relationRight, rowsRight}
 use Rattle.rules.proofs.Steps.{all-kept-are, all-kept-not}
 use Rattle.book.proofs.Flags.{off, on}
@@ -26,13 +25,13 @@ held-requires : tie.Need-held-requires Inv-loop μ-loop
 held-requires c κs = tt
 
 relation-right-requires : tie.Need-relation-right-requires Inv-loop μ-loop
-relation-right-requires c κs = (c .before .before .loop-test .taken, c .before .before .before .loop .inv .1 .0)
+relation-right-requires c κs = (omega (arith, c .before .before .loop-test .taken), c .before .before .before .loop .inv .1 .0)
 
 returns : tie.Need-returns Inv-loop μ-loop
 unfolding rowsRight keysHeld
 returns c =
     let b = c .before .before .before .before .before .before .before .args .book .now in
-    rw (all-kept-not (relationRight b) (held b) 16 (c .before .before .before .before .before .loop .k) (c .before .before .before .before .loop-test .taken) (sym (c .before .before .before .held .ensures) ∙ c .before .before .if1 .taken) (off (c .before .relation-right .ensures) (c .if2 .taken)))
+    rw (all-kept-not (relationRight b) (held b) 16 (c .before .before .before .before .before .loop .k) (omega (arith, c .before .before .before .before .loop-test .taken)) (sym (c .before .before .before .held .ensures) ∙ c .before .before .if1 .taken) (off (c .before .relation-right .ensures) (c .if2 .taken)))
 
 behind-requires : tie.Need-behind-requires Inv-loop μ-loop
 behind-requires c κs = (omega (arith, c .before .before .loop-test .taken), c .before .before .before .loop .inv .1 .0)

@@ -1,0 +1,92 @@
+// The words of a loaded mesh: how many they are, and a book filled with them.
+ghost use mathlib.Core.Path.{_≡_};
+ghost use Prim.Native.Nat.{_+_, _*_, _≤_, _<_};
+ghost use lib.ListN.{length};
+ghost use Rattle.rules.specs.Lists.{filled, spliced};
+ghost use Rattle.rules.specs.File.{field, fileCells, headDim, headCells};
+ghost use Rattle.rules.specs.Calls.{loaded};
+ghost use Rattle.loading.specs.Sizes.{Sized, vertexAt};
+use book::Place;
+use dayfile::Cell;
+use dayfile::Header;
+
+// How many words a loaded mesh takes: five, the offsets, and D + 1 vertices for each cell.
+pub fn words_for(head: Header) -> usize
+    ensures { λ r. ⌜ r ≡ 6 + headCells (head .0) + headCells (head .0) * (headDim (head .0) + 1) ⌝ }
+{
+    let cells = dayfile::cells(head) as usize;
+    6 + cells + cells * (dayfile::dimension(head) as usize + 1)
+}
+
+// Writes the head: word 0, D→0 alone held, no N_1 and no N_2, and the used length.
+fn write_head(file: &[u8], book: &mut [u32], dim: u32, used: usize)
+    requires { ⌜ Sized (now file) dim used (length (now book)) ⌝ }
+    ensures { λ r. ⌜ now (book .exit) ≡ spliced 0 5 (filled (length (now (book .entry))) (loaded (now (file .entry)))) (now (book .entry)) ⌝ }
+{
+    book[0] = dayfile::header(file).0;
+    book[1] = 1 << (4 * dim);
+    book[2] = 0;
+    book[3] = 0;
+    book[4] = used as u32;
+}
+
+// Writes the offsets: each cell has D + 1 vertices.
+fn write_offsets(file: &[u8], book: &mut [u32], dim: u32, cells: u32, used: usize)
+    requires { ⌜ Sized (now file) dim used (length (now book)) × (cells ≡ fileCells (now file)) ⌝ }
+    ensures { λ r. ⌜ now (book .exit) ≡ spliced 5 (6 + cells) (filled (length (now (book .entry))) (loaded (now (file .entry)))) (now (book .entry)) ⌝ }
+{
+    let size = dim + 1;
+    let mut offset: u32 = 0;
+    let mut i: usize = 0;
+    while i <= cells as usize {
+        book[5 + i] = offset;
+        offset += size;
+        i += 1;
+    }
+}
+
+// Writes a cell, its vertices ascending, from a place on.
+fn write_cell(file: &[u8], book: &mut [u32], dim: u32, c: Cell, at: Place, used: usize)
+    requires { ⌜ Sized (now file) dim used (length (now book)) × ((c .0 < fileCells (now file)) × (at .0 ≡ vertexAt (now file) (c .0) 0)) ⌝ }
+    ensures { λ r. ⌜ now (book .exit) ≡ spliced (at .0) (at .0 + (dim + 1)) (filled (length (now (book .entry))) (loaded (now (file .entry)))) (now (book .entry)) ⌝ }
+{
+    let corners = dayfile::cell(file, c);
+    let vertices = corners.vertices;
+    let start = at.0;
+    let n = dim as usize + 1;
+    let mut k: usize = 0;
+    while k < n {
+        book[start + k] = vertices[k];
+        k += 1;
+    }
+}
+
+// Writes the cells one after another.
+fn write_cells(file: &[u8], book: &mut [u32], dim: u32, cells: u32, used: usize)
+    requires { ⌜ Sized (now file) dim used (length (now book)) × (cells ≡ fileCells (now file)) ⌝ }
+    ensures { λ r. ⌜ now (book .exit) ≡ spliced (6 + cells) used (filled (length (now (book .entry))) (loaded (now (file .entry)))) (now (book .entry)) ⌝ }
+{
+    let size = dim as usize + 1;
+    let mut at = 6 + cells as usize;
+    let mut c: u32 = 0;
+    while c < cells {
+        write_cell(file, book, dim, Cell(c), Place(at), used);
+        at += size;
+        c += 1;
+    }
+}
+
+// Sets every word of a book that has room for the file's mesh.
+pub fn fill(file: &[u8], book: &mut [u32])
+    requires { ⌜ length (loaded (now file)) ≤ length (now book) ⌝ }
+    ensures { λ r. ⌜ now (book .exit) ≡ filled (length (now (book .entry))) (loaded (now (file .entry))) ⌝ }
+{
+    let head = dayfile::header(file);
+    let dim = dayfile::dimension(head);
+    let cells = dayfile::cells(head);
+    let used = words_for(head);
+    write_head(file, book, dim, used);
+    write_offsets(file, book, dim, cells, used);
+    write_cells(file, book, dim, cells, used);
+    settle::clear(book, Place(used));
+}
