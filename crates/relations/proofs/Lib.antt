@@ -1,4 +1,5 @@
 -- Laws for the proofs of this crate.
+mod Ranges
 mod Placed
 mod Parts
 mod Merging
@@ -18,3 +19,5 @@ mod Marked
 mod Turning
 mod Linked
 mod Right
+mod Stamps
+mod PointRows
