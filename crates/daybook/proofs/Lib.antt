@@ -1,0 +1,4 @@
+pub mod RowCases
+pub mod NumberCases
+pub mod Signed
+pub mod Alike
