@@ -1,34 +1,36 @@
+-- A right frame keeps each count far below 2^32, so the sum fits.
+use native.Mathlib.Omega.{arith}
 use borrow.Author.Needs.{needs}
+use Rattle.daybook.proofs.NumberCases.{odds-one, odds-two, odds-low}
 use Rattle.daybook.proofs.numbers.odd_sum.Statement.{statement}
 use Rattle.daybook.proofs.numbers.odd_sum.Tie as tie
-use Rattle.daybook.proofs.numbers.odd_sum.Reads as reads
-use Rattle.daybook.proofs.numbers.odd_sum.Lts as lts
-use Rattle.book.proofs.count.Reads as count-reads
-use Rattle.book.proofs.dim.Reads as dim-reads
 
--- src/numbers.rt:42:9
 count-requires : tie.Need-count-requires
 count-requires c κs = search needs
 
--- src/numbers.rt:43:8
 dim-requires : tie.Need-dim-requires
 dim-requires c κs = search needs
 
--- src/numbers.rt:44:9
 returns : tie.Need-returns
-returns c = ?
+returns c =
+    let a = c .before .before .before .before .args in
+    let t = odds-one (a .book .now) (omega (arith, c .before .dim .ensures, c .if1 .taken)) in
+    omega (arith, t, c .before .before .count .ensures)
 
--- src/numbers.rt:46:9
 count-requires-2 : tie.Need-count-requires-2
 count-requires-2 c κs = search needs
 
--- src/numbers.rt:46:5
 add-result : tie.Need-add-result
-add-result c = ?
+add-result c =
+    let s = c .before .before .before .before .before in
+    let t = odds-low (s .args .book .now) (s .pre) (omega (arith, c .before .before .dim .ensures, c .before .if1 .left)) in
+    omega (arith, t, c .before .before .before .count .ensures, c .count2 .ensures)
 
--- src/numbers.rt:38:1
 returns-2 : tie.Need-returns-2
-returns-2 c = ?
+returns-2 c =
+    let a = c .before .before .before .before .before .args in
+    let t = odds-two (a .book .now) (omega (arith, c .before .before .dim .ensures, c .before .if1 .left)) in
+    omega (arith, t, c .before .before .before .count .ensures, c .count2 .ensures)
 
 pub odd-sum-spec : {M : Type 1} → statement M
 odd-sum-spec =
