@@ -1,7 +1,7 @@
 // New relations, made from what the book stores and written behind the used words: Transpose, Intersection and neighbours.
 pub mod merge;
 pub mod transpose;
-mod words;
+pub mod words;
 
 use book::Place;
 
