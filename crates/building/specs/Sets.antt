@@ -2,7 +2,7 @@
 use mathlib.Core.Path.{_≡_}
 use mathlib.Core.List.{List, [], _∷_, _++_, map}
 use Prim.Native.Nat.{ℕ, suc, _+_, _-_, _*_, _≤_, _<_}
-use lib.ListN.{length, getD, replicate}
+use lib.ListN.{length, getD, take, replicate}
 use Rattle.rules.specs.Lists.{upTo}
 
 -- a set of d + 1 vertices as three words: an edge has a 0 behind it
@@ -12,6 +12,10 @@ padded d s = s ++ replicate (2 - d) 0
 -- the words of entity i
 unfoldable pub entity : List ℕ → ℕ → List ℕ
 entity sets i = getD sets (3 * i) 0 ∷ getD sets (3 * i + 1) 0 ∷ getD sets (3 * i + 2) 0 ∷ []
+
+-- the d + 1 vertices of entity i
+unfoldable pub vertices : ℕ → List ℕ → ℕ → List ℕ
+vertices d sets i = take (d + 1) (entity sets i)
 
 -- the words of the first n entities
 unfoldable pub entities : List ℕ → ℕ → List (List ℕ)
