@@ -1,23 +1,23 @@
 -- The loops over a cell's candidates and over the cells: what is met so far.
 use mathlib.Core.Path.{_≡_, refl, sym, ap, _∙_}
 use mathlib.Core.Bool.{true, false, cond}
-use mathlib.Core.List.{List, [], _∷_, _++_, map, List·Memᴰ as In}
+use mathlib.Core.List.{List, [], _∷_, map}
 use Prim.Native.Nat.{ℕ, zero, suc, _+_, _-_, _*_, _≤_, _<_}
 use native.Mathlib.Nat.{add-zero}
 use native.Mathlib.Numerals.{add-one}
 use native.Mathlib.Omega.{arith}
 use borrow.Author.Tests.{ltb-true}
-use lib.ListN.{length, getD, take, drop, length-map}
+use lib.ListN.{length, getD, take, length-map}
 use lib.Dec.{ltb, eqb}
 use lib.Seq.{take-suc, getD-take, length-take-le, ext-getD}
-use Rattle.rules.specs.Lists.{upTo, allOf, choose}
+use Rattle.rules.specs.Lists.{upTo, choose}
 use Rattle.rules.specs.Book.{most}
 use Rattle.rules.specs.Made.{met, metAll, built}
 use Rattle.rules.proofs.Tests.{getD-in, all-at}
 use Rattle.rules.proofs.Choose.{Chosen, chosen}
 use Rattle.rules.proofs.Numbered.{getD-map}
 use Rattle.rules.proofs.Joined.{map-last}
-use Rattle.relations.specs.Words.{part, startOf, rowAt, Rows}
+use Rattle.relations.specs.Words.{part, startOf, rowAt}
 use Rattle.relations.proofs.Placed.{part-at, part-length, rows-fit}
 use Rattle.building.specs.Sets.{padded, entities, Chains}
 use Rattle.building.specs.Cells.{Between, Corners, Candidates}

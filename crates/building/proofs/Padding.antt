@@ -1,8 +1,8 @@
 -- Sets and the same sets as three words are met alike.
 use mathlib.Core.Path.{_≡_, refl, sym, ap, _∙_}
 use mathlib.Core.Bool.{Bool, true, false, cond}
-use mathlib.Core.List.{List, [], _∷_, _++_, map, map-append, map-map, append-cancel-right, List·Memᴰ as In, List·Memᴰ·head as here, List·Memᴰ·tail as there}
-use Prim.Native.Nat.{ℕ, suc, _+_, _-_, _≤_, _<_}
+use mathlib.Core.List.{List, [], _∷_, _++_, map, map-append, append-cancel-right, List·Memᴰ as In, List·Memᴰ·head as here, List·Memᴰ·tail as there}
+use Prim.Native.Nat.{ℕ, _+_, _-_, _<_}
 use native.Mathlib.Omega.{arith}
 use lib.ListN.{length, getD, take, replicate, length-append, length-replicate}
 use lib.Seq.{take-at}

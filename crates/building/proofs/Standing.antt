@@ -1,24 +1,23 @@
 -- A book that is ready for d→0 has cells as the code asks for them, and the sets met are d→0 as the rules make it.
 use mathlib.Core.Path.{_≡_, refl, sym, ap, _∙_}
 use mathlib.Core.Bool.{true}
-use mathlib.Core.List.{List, [], _∷_, map, map-map, List·Memᴰ as In}
-use Prim.Native.Nat.{ℕ, _+_, _≤_, _<_}
+use mathlib.Core.List.{List, [], map, map-map}
+use Prim.Native.Nat.{ℕ, _+_, _<_}
 use native.Mathlib.Omega.{arith}
 use borrow.Author.Tests.{ltb-true, lt-ltb}
-use lib.ListN.{length, getD, take, length-map}
+use lib.ListN.{length, take, length-map}
 use lib.Dec.{ltb}
-use Rattle.rules.specs.Lists.{upTo, allOf}
-use Rattle.rules.specs.Book.{dim, count, key, held, place}
+use Rattle.rules.specs.Lists.{upTo}
+use Rattle.rules.specs.Book.{dim, count, key, held}
 use Rattle.rules.specs.Made.{built, made}
-use Rattle.rules.proofs.Tests.{left, all-weaker}
-use Rattle.rules.proofs.Needs.{needs-build}
+use Rattle.rules.proofs.Tests.{all-weaker}
 use Rattle.rules.proofs.FrameRule.{Framed, framed}
 use Rattle.rules.proofs.FiveRules.{made-is, made-set}
 use Rattle.rules.proofs.Built.{built-size}
-use Rattle.relations.specs.Words.{rowAt, Rows}
+use Rattle.relations.specs.Words.{rowAt}
 use Rattle.relations.specs.Ready.{Ready}
 use Rattle.relations.proofs.Placed.{rows-within}
-use Rattle.relations.proofs.Linked.{rowIn, row-is}
+use Rattle.relations.proofs.Linked.{row-is}
 use Rattle.relations.proofs.Right.{ready-rows, ready-ascends, ready-below, ready-vertices}
 use Rattle.building.specs.Sets.{padded, entity, entities, vertices}
 use Rattle.building.specs.Cells.{Between, Source, Corners}

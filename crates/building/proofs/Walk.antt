@@ -1,10 +1,10 @@
 -- The walk along a chain, by what is left of it: the entities before the one that it stands at.
-use mathlib.Core.Path.{_≡_, refl, sym, ap, _∙_}
+use mathlib.Core.Path.{_≡_, sym, ap, _∙_}
 use mathlib.Core.Bool.{true, false}
 use mathlib.Core.List.{List, [], _∷_, _++_}
 use Prim.Native.Nat.{ℕ, suc, _+_, _-_, _*_, _≤_, _<_}
 use native.Mathlib.Omega.{arith}
-use lib.ListN.{length, getD}
+use lib.ListN.{getD}
 use Rattle.rules.specs.Lists.{anyOf, same}
 use Rattle.building.specs.Sets.{entity, entities, Newest, Links}
 use Rattle.building.proofs.Entities.{entities-none, entities-more, any-without, any-with, newest-any}

@@ -59,7 +59,13 @@ fn store(sets: &mut [u32; 73728], i: usize, candidate: [u32; 3])
 }
 
 // Meets one candidate after n entities, and gives how many there are then.
-fn meet(sets: &mut [u32; 73728], head: &mut [u32; 8192], next: &mut [u32; 24576], n: u32, candidate: [u32; 3]) -> u32
+fn meet(
+    sets: &mut [u32; 73728],
+    head: &mut [u32; 8192],
+    next: &mut [u32; 24576],
+    n: u32,
+    candidate: [u32; 3],
+) -> u32
     requires { ⌜ Chains (now sets) (now head) (now next) n ⌝ ∗ ⌜ n < 24576 ⌝ ∗ ⌜ length candidate ≡ 3 ⌝ ∗ ⌜ getD candidate 0 0 < 8192 ⌝ }
     ensures { λ r. ⌜ Chains (now (sets .exit)) (now (head .exit)) (now (next .exit)) r ⌝ }
     ensures { λ r. ⌜ entities (now (sets .exit)) r ≡ met (entities (now (sets .entry)) n) candidate ⌝ }
@@ -78,7 +84,14 @@ fn meet(sets: &mut [u32; 73728], head: &mut [u32; 8192], next: &mut [u32; 24576]
 }
 
 // Meets the first `many` candidates of a cell in their order.
-fn meet_cell(sets: &mut [u32; 73728], head: &mut [u32; 8192], next: &mut [u32; 24576], n: u32, candidates: [[u32; 3]; 6], many: usize) -> u32
+fn meet_cell(
+    sets: &mut [u32; 73728],
+    head: &mut [u32; 8192],
+    next: &mut [u32; 24576],
+    n: u32,
+    candidates: [[u32; 3]; 6],
+    many: usize,
+) -> u32
     requires { ⌜ Chains (now sets) (now head) (now next) n ⌝ ∗ ⌜ n + 6 ≤ 24576 ⌝ ∗ ⌜ many ≤ 6 ⌝ ∗ ⌜ Candidates candidates many ⌝ }
     ensures { λ r. ⌜ Chains (now (sets .exit)) (now (head .exit)) (now (next .exit)) r ⌝ }
     ensures { λ r. ⌜ entities (now (sets .exit)) r ≡ metAll (entities (now (sets .entry)) n) (take many candidates) ⌝ }
@@ -93,7 +106,16 @@ fn meet_cell(sets: &mut [u32; 73728], head: &mut [u32; 8192], next: &mut [u32; 2
 }
 
 // Meets the candidates of every cell, the cells in ascending order, and gives how many entities there are.
-pub(crate) fn meet_cells(book: &[u32], sets: &mut [u32; 73728], head: &mut [u32; 8192], next: &mut [u32; 24576], at: usize, cells: usize, top: u32, d: u32) -> u32
+pub(crate) fn meet_cells(
+    book: &[u32],
+    sets: &mut [u32; 73728],
+    head: &mut [u32; 8192],
+    next: &mut [u32; 24576],
+    at: usize,
+    cells: usize,
+    top: u32,
+    d: u32,
+) -> u32
     requires { ⌜ Chains (now sets) (now head) (now next) 0 ⌝ ∗ ⌜ Between d top ⌝ ∗ ⌜ Corners (now book) top at cells ⌝ }
     ensures { λ r. ⌜ Chains (now (sets .exit)) (now (head .exit)) (now (next .exit)) r ⌝ }
     ensures { λ r. ⌜ entities (now (sets .exit)) r ≡ map (padded d) (built d [] (map (rowAt (now (book .entry)) at cells) (upTo cells))) ⌝ }

@@ -5,40 +5,31 @@ use Rattle.building.proofs.Lexicographic.{triangle, edges, faces}
 use borrow.Author.Needs.{needs}
 use Rattle.building.proofs.candidates.candidates.Statement.{statement}
 use Rattle.building.proofs.candidates.candidates.Tie as tie
-use Rattle.building.proofs.candidates.candidates.Reads as reads
-use Rattle.building.proofs.candidates.candidates.Lts as lts
 
--- src/candidates.rt:42:13
 array-read-v : tie.Need-array-read-v
 array-read-v c = search needs
 
--- src/candidates.rt:43:13
 array-read-w : tie.Need-array-read-w
 array-read-w c = search needs
 
--- src/candidates.rt:44:13
 array-read-x : tie.Need-array-read-x
 array-read-x c = search needs
 
--- src/candidates.rt:45:13
 array-read-y : tie.Need-array-read-y
 array-read-y c = search needs
 
--- src/candidates.rt:47:9
 returns : tie.Need-returns
 returns c =
     let a = c .before in
     let four : length (a .args .t1) ≡ 4 = search needs in
     (triangle (a .args .t1) four (a .pre) (c .if1 .taken), refl)
 
--- src/candidates.rt:57:9
 returns-2 : tie.Need-returns-2
 returns-2 c =
     let a = c .before .before in
     let four : length (a .args .t1) ≡ 4 = search needs in
     (edges (a .args .t1) four (a .pre) (c .before .if1 .left) (c .if2 .taken), refl)
 
--- src/candidates.rt:37:1
 returns-3 : tie.Need-returns-3
 returns-3 c =
     let a = c .before .before in

@@ -2,18 +2,13 @@
 use Rattle.building.proofs.Lexicographic.{most-triangle, most-edges, most-faces}
 use Rattle.building.proofs.candidates.choices.Statement.{statement}
 use Rattle.building.proofs.candidates.choices.Tie as tie
-use Rattle.building.proofs.candidates.choices.Reads as reads
-use Rattle.building.proofs.candidates.choices.Lts as lts
 
--- src/candidates.rt:31:9
 returns : tie.Need-returns
 returns c = most-triangle _ _ (c .if1 .taken)
 
--- src/candidates.rt:27:1
 returns-2 : tie.Need-returns-2
 returns-2 c = most-edges _ _ (c .before .if1 .left) (c .if2 .taken)
 
--- src/candidates.rt:27:1
 returns-3 : tie.Need-returns-3
 returns-3 c = most-faces _ _ (c .before .if1 .left) (c .if2 .left)
 

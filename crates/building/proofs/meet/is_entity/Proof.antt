@@ -5,76 +5,57 @@ use Rattle.building.proofs.Entities.{same-other, same-third}
 use borrow.Author.Needs.{needs}
 use Rattle.building.proofs.meet.is_entity.Statement.{statement}
 use Rattle.building.proofs.meet.is_entity.Tie as tie
-use Rattle.building.proofs.meet.is_entity.Reads as reads
-use Rattle.building.proofs.meet.is_entity.Lts as lts
 
--- src/meet.rt:23:8
 array-read-if1 : tie.Need-array-read-if1
 array-read-if1 c = search needs
 
--- src/meet.rt:23:29
 mul-if1 : tie.Need-mul-if1
 mul-if1 c = search needs
 
--- src/meet.rt:23:24
 mul-if1-2 : tie.Need-mul-if1-2
 mul-if1-2 c = search needs
 
--- src/meet.rt:23:24
 element-copy-out-if1 : tie.Need-element-copy-out-if1
 element-copy-out-if1 c = search needs
 
--- src/meet.rt:24:9
 returns : tie.Need-returns
 unfolding entity
 returns c = sym (same-other _ _ 0 (c .if1 .taken))
 
--- src/meet.rt:26:8
 array-read-if2 : tie.Need-array-read-if2
 array-read-if2 c = search needs
 
--- src/meet.rt:26:29
 mul-if2 : tie.Need-mul-if2
 mul-if2 c = search needs
 
--- src/meet.rt:26:29
 add-if2 : tie.Need-add-if2
 add-if2 c = search needs
 
--- src/meet.rt:26:24
 mul-if2-2 : tie.Need-mul-if2-2
 mul-if2-2 c = search needs
 
--- src/meet.rt:26:24
 element-copy-out-if2 : tie.Need-element-copy-out-if2
 element-copy-out-if2 c = search needs
 
--- src/meet.rt:27:9
 returns-2 : tie.Need-returns-2
 unfolding entity
 returns-2 c = sym (same-other _ _ 1 (c .if2 .taken))
 
--- src/meet.rt:29:5
 array-read-result : tie.Need-array-read-result
 array-read-result c = search needs
 
--- src/meet.rt:29:26
 mul-result : tie.Need-mul-result
 mul-result c = search needs
 
--- src/meet.rt:29:26
 add-result : tie.Need-add-result
 add-result c = search needs
 
--- src/meet.rt:29:21
 mul-result-2 : tie.Need-mul-result-2
 mul-result-2 c = search needs
 
--- src/meet.rt:29:21
 element-copy-out-result : tie.Need-element-copy-out-result
 element-copy-out-result c = search needs
 
--- src/meet.rt:19:1
 returns-3 : tie.Need-returns-3
 unfolding entity
 returns-3 c = let s = c .before .before .before .before .before in same-third (s .args .t3) (s .pre .1 .1) _ _ _ (c .before .before .before .if1 .left) (c .before .if2 .left)

@@ -5,70 +5,52 @@ use Rattle.building.proofs.Chained.{met-old, met-new, chain-links, chai
 use borrow.Author.Needs.{needs}
 use Rattle.building.proofs.meet.meet.Statement.{statement}
 use Rattle.building.proofs.meet.meet.Tie as tie
-use Rattle.building.proofs.meet.meet.Reads as reads
-use Rattle.building.proofs.meet.meet.Lts as lts
-use Rattle.building.proofs.meet.met_before.Reads as met-before-reads
-use Rattle.building.proofs.meet.store.Reads as store-reads
 
--- src/meet.rt:68:13
 array-read-v : tie.Need-array-read-v
 array-read-v c = search needs
 
--- src/meet.rt:68:13
 cast-v : tie.Need-cast-v
 cast-v c = search needs
 
--- src/meet.rt:69:18
 mul-newest : tie.Need-mul-newest
 mul-newest c = search needs
 
--- src/meet.rt:69:18
 element-copy-out-newest : tie.Need-element-copy-out-newest
 element-copy-out-newest c = search needs
 
--- src/meet.rt:70:8
 met-before-requires : tie.Need-met-before-requires
 met-before-requires c κs =
     let s = c .before .before .before in
     let k = s .pre .0 in
     (chain-links k _ (s .pre .1 .1 .1) (s .args .t5) refl, (s .pre .1 .1 .0, k .newest _ (s .pre .1 .1 .1) .lowest))
 
--- src/meet.rt:71:9
 returns : tie.Need-returns
 returns c =
     let s = c .before .before .before .before .before in
     let k = s .pre .0 in
     (k, (met-old k _ (s .pre .1 .1 .1) (s .args .t5) refl (sym (c .if1 .taken) ∙ c .before .met-before .ensures), omega arith))
 
--- src/meet.rt:74:5
 store-requires : tie.Need-store-requires
 store-requires c κs = search needs
 
--- src/meet.rt:75:5
 mul-next : tie.Need-mul-next
 mul-next c = search needs
 
--- src/meet.rt:75:5
 element-write-next : tie.Need-element-write-next
 element-write-next c = search needs
 
--- src/meet.rt:76:15
 add-head : tie.Need-add-head
 add-head c = search needs
 
--- src/meet.rt:76:5
 mul-head : tie.Need-mul-head
 mul-head c = search needs
 
--- src/meet.rt:76:5
 element-write-head : tie.Need-element-write-head
 element-write-head c = search needs
 
--- src/meet.rt:77:5
 add-result : tie.Need-add-result
 add-result c = search needs
 
--- src/meet.rt:62:1
 returns-2 : tie.Need-returns-2
 returns-2 c =
     let s = c .before .before .before .before .before .before .before in

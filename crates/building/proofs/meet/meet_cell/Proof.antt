@@ -4,9 +4,6 @@ use native.Mathlib.Omega.{arith}
 use Rattle.building.proofs.Meeting.{Meeting, meeting-none, meeting-more, meeting-all}
 use Rattle.building.proofs.meet.meet_cell.Statement.{statement}
 use Rattle.building.proofs.meet.meet_cell.Tie as tie
-use Rattle.building.proofs.meet.meet_cell.Reads as reads
-use Rattle.building.proofs.meet.meet_cell.Lts as lts
-use Rattle.building.proofs.meet.meet.Reads as meet-reads
 
 abbrev Inv-loop : tie.InvT-loop
 Inv-loop sets₀ head₀ next₀ n many candidates met₀ j₀ sets head next met j = Meeting sets₀ n candidates many sets head next met j
@@ -14,19 +11,15 @@ Inv-loop sets₀ head₀ next₀ n many candidates met₀ j₀ sets head next me
 abbrev μ-loop : tie.MeasureT-loop
 μ-loop sets₀ head₀ next₀ n many candidates met₀ j₀ sets head next met j = many - j
 
--- src/meet.rt:88:5
 loop-holds : tie.Need-loop-holds Inv-loop μ-loop
 loop-holds c = meeting-none _ _ _ _ _ _ (c .pre .0)
 
--- src/meet.rt:89:25
 mul-candidate : tie.Need-mul-candidate Inv-loop μ-loop
 mul-candidate c = omega arith
 
--- src/meet.rt:89:25
 array-copy-out-candidate : tie.Need-array-copy-out-candidate Inv-loop μ-loop
 array-copy-out-candidate c = omega (arith, c .before .before .pre .1 .1 .0)
 
--- src/meet.rt:90:9
 meet-requires : tie.Need-meet-requires Inv-loop μ-loop
 meet-requires c κs =
     let l = c .before .before .before .before in
@@ -35,15 +28,12 @@ meet-requires c κs =
     let h = l .before .loop .inv in
     (h .chains, (omega (arith, h .few, s .pre .1 .0, s .pre .1 .1 .0, l .loop-test .taken), (q .size _ (l .loop-test .taken), q .below _ (l .loop-test .taken))))
 
--- src/meet.rt:88:9
 add-j : tie.Need-add-j Inv-loop μ-loop
 add-j c = omega arith
 
--- src/meet.rt:88:5
 loop-less : tie.Need-loop-less Inv-loop μ-loop
 loop-less c = omega arith
 
--- src/meet.rt:88:5
 loop-again : tie.Need-loop-again Inv-loop μ-loop
 loop-again c =
     let l = c .before .before .before .before .before in
@@ -51,7 +41,6 @@ loop-again c =
     let e = c .meet .ensures in
     meeting-more (l .before .loop .inv) (l .loop-test .taken) (s .pre .1 .1 .1 .few) (e .0) (e .1 .0) (e .1 .1)
 
--- src/meet.rt:81:1
 returns : tie.Need-returns Inv-loop μ-loop
 returns c =
     let h = c .before .loop .inv in

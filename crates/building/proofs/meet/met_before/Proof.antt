@@ -6,9 +6,6 @@ use native.Mathlib.Omega.{arith}
 use Rattle.building.proofs.Walk.{Walking, walk-end, walk-found, walk-on}
 use Rattle.building.proofs.meet.met_before.Statement.{statement}
 use Rattle.building.proofs.meet.met_before.Tie as tie
-use Rattle.building.proofs.meet.met_before.Reads as reads
-use Rattle.building.proofs.meet.met_before.Lts as lts
-use Rattle.building.proofs.meet.is_entity.Reads as is-entity-reads
 
 abbrev Inv-loop : tie.InvT-loop
 Inv-loop sets next from candidate p₀ p = Walking sets candidate from p
@@ -16,41 +13,33 @@ Inv-loop sets next from candidate p₀ p = Walking sets candidate from p
 abbrev μ-loop : tie.MeasureT-loop
 μ-loop sets next from candidate p₀ p = p
 
--- src/meet.rt:39:5
 loop-holds : tie.Need-loop-holds Inv-loop μ-loop
 loop-holds c = record { high = omega arith; lowest = c .pre .1 .1; left = refl }
 
--- src/meet.rt:40:17
 cast-i : tie.Need-cast-i Inv-loop μ-loop
 cast-i c = omega arith
 
--- src/meet.rt:40:17
 sub-i : tie.Need-sub-i Inv-loop μ-loop
 sub-i c = omega arith
 
--- src/meet.rt:41:12
 is-entity-requires : tie.Need-is-entity-requires Inv-loop μ-loop
 is-entity-requires c κs =
     let k = c .before .before .pre in
     (omega (arith, k .0 .most, c .before .loop .inv .high), (k .0 .sets-long, k .1 .0))
 
--- src/meet.rt:42:13
 returns : tie.Need-returns Inv-loop μ-loop
 returns c = walk-found (c .before .before .before .loop .inv) (c .before .before .loop-test .taken) (sym (c .before .is-entity .ensures) ∙ c .if1 .taken)
 
--- src/meet.rt:44:13
 mul-p : tie.Need-mul-p Inv-loop μ-loop
 mul-p c =
     let l = c .before .before in
     omega (arith, l .before .before .pre .0 .most, l .before .loop .inv .high)
 
--- src/meet.rt:44:13
 element-copy-out-p : tie.Need-element-copy-out-p Inv-loop μ-loop
 element-copy-out-p c =
     let l = c .before .before in
     omega (arith, l .before .before .pre .0 .most, l .before .loop .inv .high)
 
--- src/meet.rt:39:5
 loop-less : tie.Need-loop-less Inv-loop μ-loop
 loop-less c =
     let l = c .before .before .before in
@@ -58,13 +47,11 @@ loop-less c =
     let p = l .before .loop .p in
     omega (arith, k .older (p - 1) (omega (arith, l .loop-test .taken, l .before .loop .inv .high)) .within, l .loop-test .taken)
 
--- src/meet.rt:39:5
 loop-again : tie.Need-loop-again Inv-loop μ-loop
 loop-again c =
     let l = c .before .before .before in
     walk-on (l .before .loop .inv) (l .loop-test .taken) (l .before .before .pre .0) (sym (c .before .before .is-entity .ensures) ∙ c .before .if1 .left)
 
--- src/meet.rt:33:1
 returns-2 : tie.Need-returns-2 Inv-loop μ-loop
 returns-2 c = walk-end (c .before .loop .inv) (c .loop-test .left)
 

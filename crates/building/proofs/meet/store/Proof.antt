@@ -5,66 +5,49 @@ use Rattle.building.proofs.Chained.{stored-long, stored-front, stored-e
 use borrow.Author.Needs.{needs}
 use Rattle.building.proofs.meet.store.Statement.{statement}
 use Rattle.building.proofs.meet.store.Tie as tie
-use Rattle.building.proofs.meet.store.Reads as reads
-use Rattle.building.proofs.meet.store.Lts as lts
 
--- src/meet.rt:56:19
 array-read-sets : tie.Need-array-read-sets
 array-read-sets c = search needs
 
--- src/meet.rt:56:10
 mul-sets : tie.Need-mul-sets
 mul-sets c = search needs
 
--- src/meet.rt:56:5
 mul-sets-2 : tie.Need-mul-sets-2
 mul-sets-2 c = search needs
 
--- src/meet.rt:56:5
 element-write-sets : tie.Need-element-write-sets
 element-write-sets c = search needs
 
--- src/meet.rt:57:23
 array-read-sets-2 : tie.Need-array-read-sets-2
 array-read-sets-2 c = search needs
 
--- src/meet.rt:57:10
 mul-sets-3 : tie.Need-mul-sets-3
 mul-sets-3 c = search needs
 
--- src/meet.rt:57:10
 add-sets : tie.Need-add-sets
 add-sets c = search needs
 
--- src/meet.rt:57:5
 mul-sets-4 : tie.Need-mul-sets-4
 mul-sets-4 c = search needs
 
--- src/meet.rt:57:5
 element-write-sets-2 : tie.Need-element-write-sets-2
 element-write-sets-2 c = search needs
 
--- src/meet.rt:58:23
 array-read-sets-3 : tie.Need-array-read-sets-3
 array-read-sets-3 c = search needs
 
--- src/meet.rt:58:10
 mul-sets-5 : tie.Need-mul-sets-5
 mul-sets-5 c = search needs
 
--- src/meet.rt:58:10
 add-sets-2 : tie.Need-add-sets-2
 add-sets-2 c = search needs
 
--- src/meet.rt:58:5
 mul-sets-6 : tie.Need-mul-sets-6
 mul-sets-6 c = search needs
 
--- src/meet.rt:58:5
 element-write-sets-3 : tie.Need-element-write-sets-3
 element-write-sets-3 c = search needs
 
--- src/meet.rt:50:1
 returns : tie.Need-returns
 returns c =
     let a = c .args in
