@@ -1,7 +1,6 @@
 -- What a word has room for: a field of up to 32 bits, and the weight of a bit of a byte.
-use mathlib.Core.Path.{_≡_}
 use mathlib.Core.List.{List}
-use Prim.Native.Nat.{ℕ, suc, _+_, _*_, _/_, _%_, _^_, _≤_, _<_}
+use Prim.Native.Nat.{ℕ, suc, _+_, _*_, _^_, _≤_, _<_}
 use native.Mathlib.Nat.{pow-le-pow-right, mul-le-mul-right}
 use native.Mathlib.Omega.{arith}
 use Rattle.rules.specs.File.{bitAt, field}

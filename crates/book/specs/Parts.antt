@@ -1,10 +1,10 @@
 -- A part of the book: its words, and where in the book's memory it lies.
 use mathlib.Core.Path.{_≡_}
 use mathlib.Core.List.{List}
-use Prim.Native.Nat.{ℕ, _+_, _*_, _/_, min}
+use Prim.Native.Nat.{ℕ, _+_, _*_, min}
 use lib.ListN.{length, take, drop}
 use denote.Ref.{RefT, ptr, now}
-use Rattle.rules.specs.Book.{count, place, offset, rowOf}
+use Rattle.rules.specs.Book.{rowStart, rowOf}
 
 -- the n words from `at` on, cut at the book's end, in the book's own memory: four bytes to a word
 pub record PartOf (book part : RefT (List ℕ)) (at n : ℕ) : Type 0 where
@@ -12,12 +12,8 @@ pub record PartOf (book part : RefT (List ℕ)) (at n : ℕ) : Type 0 where
   pub block : ptr part .0 ≡ ptr book .0
   pub start : ptr part .1 ≡ ptr book .1 + 4 * min at (length (now book))
 
--- the place where row i of the relation of key k begins
-unfoldable pub rowPlace : List ℕ → ℕ → ℕ → ℕ
-rowPlace ws k i = place ws k + count ws (k / 4) + 1 + offset ws k i
-
 -- row i of the relation of key k, in the book's own memory, and at the book's end where it would begin past it
 pub record RowPart (book row : RefT (List ℕ)) (k i : ℕ) : Type 0 where
   pub words : now row ≡ rowOf (now book) k i
   pub block : ptr row .0 ≡ ptr book .0
-  pub start : ptr row .1 ≡ ptr book .1 + 4 * min (rowPlace (now book) k i) (length (now book))
+  pub start : ptr row .1 ≡ ptr book .1 + 4 * min (rowStart (now book) k i) (length (now book))

@@ -32,19 +32,18 @@
 // | 17  | i is N_d or more                                            | row                     |
 // | 18  | the byte buffer is shorter than the file                    | write                   |
 mod answers;
-mod load;
+mod loads;
 mod numbers;
 mod rows;
-mod write;
+mod writes;
 
 pub use answers::Counted;
 pub use answers::EulerNumber;
 pub use answers::Loaded;
 pub use answers::Written;
-pub use load::load;
+pub use loads::load;
 pub use numbers::euler;
 pub use numbers::held_count;
 pub use rows::row;
 pub use rows::row_number;
-pub use rows::row_start;
-pub use write::write;
+pub use writes::write;

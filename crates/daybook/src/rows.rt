@@ -1,11 +1,17 @@
 // Row: the part of the book that is one row of a relation.
 use book::Place;
 ghost use mathlib.Core.Path.{_≡_};
-ghost use Rattle.rules.specs.Book.{key, rowStart};
-ghost use Rattle.rules.specs.Calls.{rowNumber, rowPart};
+ghost use mathlib.Core.Bool.{_&&_};
+ghost use Prim.Native.Nat.{_+_, _<_};
+ghost use lib.Dec.{leb};
+ghost use Rattle.rules.specs.Book.{offset, total};
+ghost use Rattle.rules.specs.Calls.{rowNumber};
+ghost use Rattle.daybook.specs.Parts.{RowOf};
 
 // Whether row i's own two offsets are first ≤ second ≤ total.
-fn offsets_right(book: &[u32], k: u32, i: u32) -> bool {
+fn offsets_right(book: &[u32], k: u32, i: u32) -> bool
+    ensures { λ r. ⌜ r ≡ (leb (offset (now (book .entry)) k i) (offset (now (book .entry)) k (i + 1)) && leb (offset (now (book .entry)) k (i + 1)) (total (now (book .entry)) k)) ⌝ }
+{
     let at = book::place_of(book, k).0;
     let first = book::word(book, Place(at + i as usize));
     let second = book::word(book, Place(at + (i as usize + 1)));
@@ -44,7 +50,7 @@ pub fn row_number(book: &[u32], d: u32, e: u32, i: u32) -> u32
 
 // Row i of d→e, as the part of the book that it is; empty on a refusal, whose number `row_number` gives.
 pub fn row(book: &[u32], d: u32, e: u32, i: u32) -> &[u32]
-    ensures { λ r. ⌜ now r ≡ rowPart (now (book .entry)) d e i ⌝ }
+    ensures { λ r. ⌜ RowOf (book .entry) r d e i ⌝ }
 {
     if row_number(book, d, e, i) != 0 {
         return &book[0..0];

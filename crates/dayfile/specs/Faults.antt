@@ -1,6 +1,5 @@
 -- The faults of a file: document 01's number for each, and the cell that comes with 7 and 8.
 use Prim.Native.Nat.{ℕ, zero, suc}
-use Rattle.dayfile.specs.declared.kinds.Cell.{Cell}
 use Rattle.dayfile.specs.declared.kinds.Fault.{Fault}
 use Rattle.dayfile.specs.declared.kinds.Fault.the-variants.{None, Short, NoDimension, ManyVertices, ManyCells, SpareBits, WrongLength, VertexOut, VertexTwice, BitsAfter}
 

@@ -50,14 +50,14 @@ fn first_out(file: &[u8], head: Header) -> Cell
     let count = cells(head);
     let dim = dimension(head);
     let n = dim as usize + 1;
-    let mut c: u32 = 0;
-    while c < count {
-        if out_of(in_file(file, dim, Cell(c)), n, head) {
-            return Cell(c);
+    let mut at: u32 = 0;
+    while at < count {
+        if out_of(in_file(file, dim, Cell(at)), n, head) {
+            return Cell(at);
         }
-        c += 1;
+        at += 1;
     }
-    Cell(c)
+    Cell(at)
 }
 
 // The lowest cell that names a vertex twice, or N_D where there is none.
@@ -71,16 +71,16 @@ fn first_twice(file: &[u8], head: Header) -> Cell
     let mut c: u32 = 0;
     'cells: while c < count {
         let v = in_file(file, dim, Cell(c));
-        let mut j: usize = 1;
-        while j < n {
-            let mut i: usize = 0;
-            while i < j {
+        let mut i: usize = 0;
+        while i < n {
+            let mut j = i + 1;
+            while j < n {
                 if v[i] == v[j] {
                     break 'cells;
                 }
-                i += 1;
+                j += 1;
             }
-            j += 1;
+            i += 1;
         }
         c += 1;
     }
@@ -103,27 +103,31 @@ pub fn fault(file: &[u8]) -> Fault
         return Fault::Short;
     }
     let head = header(file);
-    if dimension(head) == 0 {
+    let dim = dimension(head);
+    let vertex_count = vertices(head);
+    let cell_count = cells(head);
+    let spare_bits = spare(head);
+    if dim == 0 {
         return Fault::NoDimension;
     }
-    if vertices(head) > 8192 {
+    if vertex_count > 8192 {
         return Fault::ManyVertices;
     }
-    if cells(head) > 4096 {
+    if cell_count > 4096 {
         return Fault::ManyCells;
     }
-    if spare(head) > 0 {
+    if spare_bits > 0 {
         return Fault::SpareBits;
     }
     if file.len() != length(head) {
         return Fault::WrongLength;
     }
     let out = first_out(file, head);
-    if out.0 < cells(head) {
+    if out.0 < cell_count {
         return Fault::VertexOut(out);
     }
     let twice = first_twice(file, head);
-    if twice.0 < cells(head) {
+    if twice.0 < cell_count {
         return Fault::VertexTwice(twice);
     }
     if bits_after(file, head) {

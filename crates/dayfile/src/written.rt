@@ -52,7 +52,8 @@ pub fn write(head: Header, vertices: &[u32], bytes: &mut [u8]) -> usize
     ensures { λ r. ⌜ (r ≡ headLength (head .0)) × (now (bytes .exit) ≡ putFile (head .0) (now (vertices .entry)) (now (bytes .entry))) ⌝ }
 {
     let n = length(head);
-    if n <= bytes.len() {
+    let room = bytes.len();
+    if n <= room {
         fill(&mut bytes[..n], head, vertices);
     }
     n

@@ -6,14 +6,14 @@ use Prim.Native.Nat.{ℕ, _+_, _≤_, _<_}
 use lib.ListN.{length, take}
 use lib.Dec.{eqb, ltb}
 use borrow.Author.Tests.{ltb-true}
-use Rattle.rules.specs.Lists.{upTo, anyOf, allOf, keep, has, inside}
+use Rattle.rules.specs.Lists.{anyOf, allOf, has, inside}
 use Rattle.rules.specs.Made.{listedAt}
 use Rattle.rules.proofs.Tests.{left, right}
 use Rattle.rules.proofs.First.{keep-same, keep-length}
 use Rattle.rules.proofs.Slices.{part-front}
 use Rattle.relations.specs.Words.{part, rowAt, Rows}
 use Rattle.relations.specs.Merge.{liesIn}
-use Rattle.relations.specs.Near.{nearRow, innerRow, Incidence}
+use Rattle.relations.specs.Near.{nearRow, innerRow, Through, Incidence}
 use Rattle.relations.proofs.Placed.{rows-front, rowAt-front}
 
 pub liesIn-front : (vs ws : List ℕ) (k : ℕ) → take k vs ≡ take k ws → {at n : ℕ} → Rows ws at n k → (a m : ℕ) → a + m ≤ k → (i : ℕ) → i < n
@@ -31,16 +31,13 @@ listedAt-same r q v h (x ∷ xs) t j =
     let rest : listedAt r xs j ≡ listedAt q xs j = listedAt-same r q v h xs (right (ltb x v) (allOf (λ w. ltb w v) xs) t) j in
     rw one (ap (λ (b : Bool). has j (q x) || b) rest)
 
-module _ (vs ws : List ℕ) (m : ℕ) (e : take m vs ≡ take m ws) (own n back v : ℕ) (c : Incidence ws own n back v m) where
-  pub incidence-front : (k : ℕ) → m ≤ k → Incidence vs own n back v k
-  incidence-front k l =
-      record {
-        owned = rows-front vs ws m e (c .owned) k l;
-        backed = rows-front vs ws m e (c .backed) k l;
-        few = λ i h. rw (rowAt-front vs ws m e (c .owned) i h) (c .few i h);
-        below = λ i h. rw (rowAt-front vs ws m e (c .owned) i h) (c .below i h);
-        ascend = λ w h. rw (rowAt-front vs ws m e (c .backed) w h) (c .ascend w h);
-      }
+module _ (vs ws : List ℕ) (m : ℕ) (e : take m vs ≡ take m ws) (own n back v : ℕ) (c : Through ws own n back v m) where
+  pub through-front : (k : ℕ) → m ≤ k → Through vs own n back v k
+  through-front k l = record {
+    owned = rows-front vs ws m e (c .owned) k l;
+    backed = rows-front vs ws m e (c .backed) k l;
+    below = λ i h. rw (rowAt-front vs ws m e (c .owned) i h) (c .below i h);
+  }
 
   pub nearRow-front : (i : ℕ) → i < n → nearRow vs own n back v i ≡ nearRow ws own n back v i
   unfolding nearRow
@@ -61,6 +58,13 @@ module _ (vs ws : List ℕ) (m : ℕ) (e : take m vs ≡ take m ws) (own n back 
         listedAt-same (rowAt vs back v) (rowAt ws back v) v (rowAt-front vs ws m e (c .backed)) (rowAt ws own n i) (c .below i h) j,
         rowAt-front vs ws m e r j l,
       )))
+
+pub incidence-front : (vs ws : List ℕ) (m : ℕ) → take m vs ≡ take m ws → (own n back v : ℕ) → Incidence ws own n back v m → (k : ℕ) → m ≤ k → Incidence vs own n back v k
+incidence-front vs ws m e own n back v c k l = record {
+  through = through-front vs ws m e own n back v (c .through) k l;
+  few = λ i h. rw (rowAt-front vs ws m e (c .through .owned) i h) (c .few i h);
+  ascend = λ w h. rw (rowAt-front vs ws m e (c .through .backed) w h) (c .ascend w h);
+}
 
 pub length-innerRow : (ws : List ℕ) (own n back v sub b i : ℕ) → length (innerRow ws own n back v sub b i) ≤ b
 unfolding innerRow

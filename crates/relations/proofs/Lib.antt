@@ -1,4 +1,5 @@
 -- Laws for the proofs of this crate.
+pub mod Ranges
 pub mod Placed
 mod Parts
 mod Merging
@@ -18,3 +19,5 @@ mod Marked
 mod Turning
 pub mod Linked
 pub mod Right
+mod Stamps
+mod PointRows

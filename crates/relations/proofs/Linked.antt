@@ -4,10 +4,10 @@ use mathlib.Core.List.{List, map}
 use Prim.Native.Nat.{ℕ, _/_, _<_}
 use native.Mathlib.Omega.{arith}
 use Rattle.rules.specs.Lists.{upTo, rowsBy}
-use Rattle.rules.specs.Book.{count, key, place, offset, rowOf}
-use Rattle.rules.specs.Made.{turned, intersected, neighbours, made}
+use Rattle.rules.specs.Book.{dim, count, key, place, offset, rowOf}
+use Rattle.rules.specs.Made.{turned, intersected, neighbours, vertexNeighbours, made}
 use Rattle.rules.proofs.Needs.{key-div}
-use Rattle.rules.proofs.FiveRules.{made-is, made-up, made-down, made-level}
+use Rattle.rules.proofs.FiveRules.{made-is, made-up, made-down, made-level, made-points}
 use Rattle.relations.specs.Words.{part, rowAt}
 use Rattle.relations.specs.Near.{nearRow, innerRow}
 
@@ -38,3 +38,8 @@ module _ (ws : List ℕ) where
   unfolding innerRow intersected rowsBy
   made-inner d e l m h =
       made-is ws d e ∙ made-down _ _ _ d e l m ∙ rw (row-is 0 e (omega arith), row-is d 0 (omega arith), row-is e 0 (omega arith))
+
+  pub made-around : (D : ℕ) → D ≡ dim ws → D < 4
+      → made ws 0 0 ≡ map (nearRow ws (place ws (key 0 D)) (count ws 0) (place ws (key D 0)) (count ws D)) (upTo (count ws 0))
+  unfolding nearRow vertexNeighbours rowsBy
+  made-around D e m = made-is ws 0 0 ∙ made-points _ _ _ ∙ rw (← e, row-is 0 D m, row-is D 0 (omega arith))

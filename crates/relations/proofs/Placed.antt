@@ -1,5 +1,5 @@
 -- A relation where it stands: its offsets rise up to the last, its rows are parts of the words, and words that begin alike have the same rows.
-use mathlib.Core.Path.{_≡_, refl, sym, ap, _∙_}
+use mathlib.Core.Path.{_≡_, ap, _∙_}
 use mathlib.Core.Bool.{Bool, true}
 use mathlib.Core.Logic.{inl, inr}
 use mathlib.Core.List.{List, [], _∷_, _++_}

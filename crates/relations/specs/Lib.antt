@@ -3,3 +3,4 @@ pub mod Ready
 pub mod Turn
 pub mod Merge
 pub mod Near
+pub mod Points

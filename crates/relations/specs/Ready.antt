@@ -5,6 +5,7 @@ use mathlib.Core.List.{List}
 use Prim.Native.Nat.{ℕ, _≤_}
 use lib.ListN.{getD}
 use Rattle.rules.specs.Lists.{allOf}
+use Rattle.relations.specs.declared.Source.{Source}
 use Rattle.rules.specs.Book.{dim, count, key, held, place, needs, frameRight, rowsRight}
 
 -- the book is right, what d→e is made from is held, d→e is not D→0, and dst is the used length
@@ -17,8 +18,10 @@ pub record Ready (ws : List ℕ) (d e dst : ℕ) : Type 0 where
   pub below : d ≡ dim ws → e ≡ 0 → ⊥
   pub used : dst ≡ getD ws 4 0
 
--- d→e stands at `at`, with n rows of indices below m
-pub record Stands (ws : List ℕ) (d e at n m : ℕ) : Type 0 where
-  pub stands : at ≡ place ws (key d e)
-  pub rows : n ≡ count ws d
-  pub indices : m ≡ count ws e
+-- the source is d→e, where it stands in the book, with N_d rows of indices below N_e
+pub record Stands (ws : List ℕ) (d e : ℕ) (source : Source) : Type 0 where
+  pub from : source .from ≡ d
+  pub to : source .to ≡ e
+  pub at : source .at .0 ≡ place ws (key d e)
+  pub rows : source .rows ≡ count ws d
+  pub below : source .below ≡ count ws e

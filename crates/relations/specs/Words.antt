@@ -1,8 +1,13 @@
 -- A relation among the words, found by where it stands; and what a function promises that appends one.
 use mathlib.Core.Path.{_≡_}
-use mathlib.Core.List.{List, _++_}
-use Prim.Native.Nat.{ℕ, _+_, _-_, _≤_, _<_}
+use mathlib.Core.List.{List, [], _∷_, _++_}
+use Prim.Native.Nat.{ℕ, zero, suc, _+_, _-_, _≤_, _<_}
 use lib.ListN.{length, getD, take, drop}
+
+-- the n numbers from a on
+unfoldable pub range : ℕ → ℕ → List ℕ
+range a zero = []
+range a (suc n) = a ∷ range (suc a) n
 
 -- n words from a on
 unfoldable pub part : List ℕ → ℕ → ℕ → List ℕ

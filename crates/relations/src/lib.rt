@@ -1,5 +1,6 @@
-// New relations, made from what the book stores and written behind the used words: Transpose, Intersection and neighbours.
+// New relations, made from what the book stores and written behind the used words: Transpose, Intersection, neighbours.
 pub mod merge;
+pub mod points;
 pub mod transpose;
 pub mod words;
 
@@ -7,8 +8,8 @@ use book::Place;
 
 // A relation that another is made from: `from`→`to` stands at `at`, and has `rows` rows of indices below `below`.
 pub struct Source {
-    pub from: usize,
-    pub to: usize,
+    pub from: u32,
+    pub to: u32,
     pub at: Place,
     pub rows: u32,
     pub below: u32,

@@ -1,8 +1,7 @@
 -- Fields written into bytes: bytes with the same bits are the same bytes, so what is written is known by its bits.
 use mathlib.Core.Path.{_≡_, refl, sym, ap, _∙_}
-use mathlib.Core.Logic.{_⊎_, inl, inr}
 use mathlib.Core.Bool.{Bool, true, false, cond, _&&_}
-use mathlib.Core.List.{List, [], _∷_, _++_, map}
+use mathlib.Core.List.{List, map}
 use Prim.Native.Nat.{ℕ, zero, suc, _+_, _-_, _*_, _/_, _%_, _^_, _≤_, _<_}
 use native.Mathlib.Nat.{pow-zero, pow-suc, div-one, zero-div, div-div-eq-div-mul, mul-comm, mul-assoc, mul-one, mod-le, mod-mod, div-mul-le-self, mul-le-mul-right}
 use native.Mathlib.Numerals.{add-one}
@@ -10,13 +9,13 @@ use native.Mathlib.Decide.{decLt, ℕ-discrete}
 use native.Mathlib.Omega.{arith}
 use lib.ListN.{length, getD, set, drop, length-set, List·getD-eq-default}
 use lib.Seq.{ext-getD, getD-set-same, getD-set-other}
-use lib.Dec.{eqb, ltb, leb}
-use borrow.Author.Tests.{lt-ltb, le-ltb, le-leb, lt-leb, eq-eqb, ne-eqb}
-use Rattle.rules.specs.Lists.{upTo, allOf}
+use lib.Dec.{ltb, leb}
+use borrow.Author.Tests.{lt-ltb, le-ltb, le-leb, lt-leb}
+use Rattle.rules.specs.Lists.{upTo}
 use Rattle.rules.specs.File.{bitAt, field, byteOf, packed, bitWith, withField}
 use Rattle.rules.proofs.Tests.{all-of, all-map}
-use Rattle.rules.proofs.Numbered.{length-rows, getD-rows}
-use Rattle.rules.proofs.Masks.{bit-half, bits-equal, pow-pos}
+use Rattle.rules.proofs.Numbered.{getD-rows}
+use Rattle.rules.proofs.Masks.{bit-half, bits-equal}
 use Rattle.rules.proofs.Bits.{Bits, bit-small, length-packed, packed-at, packed-bit}
 
 -- each member is a byte

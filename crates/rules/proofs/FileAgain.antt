@@ -1,7 +1,7 @@
 -- A file read and written again: an accepted file is known by its first 32 bits and its cells, so what is written from them is the file with each cell ascending.
-use mathlib.Core.Path.{_≡_, refl, sym, ap, _∙_}
+use mathlib.Core.Path.{_≡_, sym, ap, _∙_}
 use mathlib.Core.Bool.{true, false}
-use mathlib.Core.List.{List, [], _∷_, map}
+use mathlib.Core.List.{List, [], map}
 use Prim.Native.Nat.{ℕ, zero, suc, _+_, _-_, _*_, _/_, _%_, _^_, _≤_, _<_}
 use native.Mathlib.Nat.{pow-zero, div-one, zero-add, mul-assoc, mul-comm, div-add-mod, mod-lt, div-lt-iff-lt-mul, le-refl}
 use native.Mathlib.Decide.{decLt}
@@ -9,10 +9,10 @@ use native.Mathlib.Omega.{arith}
 use lib.ListN.{length, getD}
 use lib.Dec.{eqb}
 use borrow.Author.Tests.{eqb-false}
-use Rattle.rules.specs.Lists.{upTo, allOf, joined, ascends, sorted}
+use Rattle.rules.specs.Lists.{allOf, joined, ascends, sorted}
 use Rattle.rules.specs.File.{bitAt, field, fileDim, fileVertices, fileCells, fileCell, cellsInFile, bitsOf, lengthOf, padSet, fileBytes, headDim, headCells}
 use Rattle.rules.specs.Calls.{loaded, loadNumber}
-use Rattle.rules.specs.Truth.{meshOf, firstWord}
+use Rattle.rules.specs.Truth.{meshOf}
 use Rattle.rules.proofs.Tests.{none-of, all-at}
 use Rattle.rules.proofs.Keep.{upTo-of}
 use Rattle.rules.proofs.Numbered.{getD-rows}
@@ -24,12 +24,9 @@ use Rattle.rules.proofs.TrueLoad.{mesh-dims, mesh-vertices, mesh-cells,
 use Rattle.rules.proofs.Written.{fileOf, fileBits, map-same, bits-right, word-is, cells-back, dims-back, vertices-back, file-loads}
 use Rattle.rules.proofs.BitsWritten.{Bytes, bytes-same, bytes-packed}
 use Rattle.rules.proofs.Head.{head-dim, head-cells}
+use Rattle.rules.proofs.Padded.{bit-below}
 
 -- ---- the bits of a file, from its fields
-bit-below : (f : List ℕ) (i : ℕ) → bitAt f i < 2
-unfolding bitAt
-bit-below f i = omega arith
-
 pub field-bit : (f : List ℕ) (i w j : ℕ) → j < w → bitAt f (i + j) ≡ field f i w / 2 ^ (w - suc j) % 2
 unfolding field
 field-bit f i zero j l = absurd (omega arith)

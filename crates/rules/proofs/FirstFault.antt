@@ -1,11 +1,9 @@
 -- The number of a file's first fault, test by test in their order.
-use mathlib.Core.Path.{_≡_, refl, sym, _∙_}
+use mathlib.Core.Path.{_≡_, _∙_}
 use mathlib.Core.Bool.{Bool, true, false}
 use mathlib.Core.List.{List}
 use Prim.Native.Nat.{ℕ, _≤_, _<_}
-use native.Mathlib.Omega.{arith}
 use lib.ListN.{length}
-use lib.Dec.{eqb, ltb}
 use borrow.Author.Tests.{lt-ltb, le-ltb, eq-eqb, ne-eqb}
 use Rattle.rules.specs.Lists.{anyOf, firstAt}
 use Rattle.rules.specs.File.{fileDim, fileVertices, fileCells, fileSpare, fileCell, lengthOf, cellsInFile, outOf, twice, padSet}

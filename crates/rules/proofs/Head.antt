@@ -5,7 +5,7 @@ use Prim.Native.Nat.{ℕ, _+_, _*_, _<_}
 use native.Mathlib.Nat.{mul-le-mul}
 use native.Mathlib.Omega.{arith}
 use Rattle.rules.specs.File.{field, fileDim, fileVertices, fileCells, fileSpare, bitsOf, lengthOf, headDim, headVertices, headCells, headSpare, headLength}
-use Rattle.rules.proofs.Fields.{field-below, first-word, dim-below}
+use Rattle.rules.proofs.Fields.{field-below, first-word}
 
 module _ (f : List ℕ) where
   vertices-below : fileVertices f < 16384

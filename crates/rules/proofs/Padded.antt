@@ -30,7 +30,7 @@ clear-field f i (suc w) h j l =
       | no k ↦ let e : j ≡ w = omega arith in rw e (omega arith)
     ]
 
-bit-below : (f : List ℕ) (i : ℕ) → bitAt f i < 2
+pub bit-below : (f : List ℕ) (i : ℕ) → bitAt f i < 2
 unfolding bitAt
 bit-below f i = omega arith
 

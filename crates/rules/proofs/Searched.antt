@@ -89,14 +89,6 @@ module _ {ℓ} {A : Type ℓ} (p : A → Bool) (xs : List A) (d : A) (k : ℕ) w
   pub any-end : length xs ≡ k → anyOf p (drop k xs) ≡ false
   any-end e = rw (← e, drop-length xs) (unfold anyOf in refl)
 
--- one member more that is apart from those before it
-pub apart-more : (xs : List ℕ) (j : ℕ) → Apart xs j → ((a : ℕ) → a < j → getD xs a 0 ≡ getD xs j 0 → ⊥) → Apart xs (j + 1)
-apart-more xs j f g b l a k e = go (last-or-below b j (rw add-one at l))
-  where
-    go : (b ≡ j) ⊎ (b < j) → ⊥
-    go (inl q) = g a (omega arith) (rw q at e)
-    go (inr h) = f b h a k e
-
 -- the members of a list's front
 pub apart-front : (xs ys : List ℕ) → Apart (xs ++ ys) (length xs) → twice xs ≡ false
 apart-front xs ys f =
@@ -104,3 +96,28 @@ apart-front xs ys f =
 
 pub twice-front : (xs ys : List ℕ) (a b : ℕ) → a < b → b < length xs → getD (xs ++ ys) a 0 ≡ getD (xs ++ ys) b 0 → twice xs ≡ true
 twice-front xs ys a b k l e = twice-at xs a b k l (sym (List·getD-append xs ys 0 a (omega arith)) ∙ e ∙ List·getD-append xs ys 0 b l)
+
+-- member i is apart from those after it, up to place j
+abbrev pub ApartFrom : List ℕ → ℕ → ℕ → Type 0
+ApartFrom xs i j = (b : ℕ) → i < b → b < j → getD xs i 0 ≡ getD xs b 0 → ⊥
+
+pub from-none : (xs : List ℕ) (i : ℕ) → ApartFrom xs i (i + 1)
+from-none xs i b k l e = omega arith
+
+pub from-more : (xs : List ℕ) (i j : ℕ) → ApartFrom xs i j → (getD xs i 0 ≡ getD xs j 0 → ⊥) → ApartFrom xs i (j + 1)
+from-more xs i j f g b k l e = go (last-or-below b j (rw add-one at l))
+  where
+    go : (b ≡ j) ⊎ (b < j) → ⊥
+    go (inl q) = g (rw q at e)
+    go (inr h) = f b k h e
+
+pub before-more : (xs : List ℕ) (i n : ℕ) → ((a : ℕ) → a < i → ApartFrom xs a n) → ApartFrom xs i n → (a : ℕ) → a < i + 1 → ApartFrom xs a n
+before-more xs i n f g a l = go (last-or-below a i (rw add-one at l))
+  where
+    go : (a ≡ i) ⊎ (a < i) → ApartFrom xs a n
+    go (inl q) = rw q g
+    go (inr h) = f a h
+
+-- where every member is apart from those after it, any two are apart
+pub apart-all : (xs : List ℕ) (n : ℕ) → ((a : ℕ) → a < n → ApartFrom xs a n) → Apart xs n
+apart-all xs n f b l a k e = f a (omega arith) b k l e

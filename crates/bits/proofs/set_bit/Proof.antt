@@ -1,5 +1,5 @@
 -- The byte of bit `bit + j` with that bit set is a field of one bit; past the end nothing is written.
-use mathlib.Core.Path.{_≡_, sym, _∙_}
+use mathlib.Core.Path.{_≡_, sym}
 use Prim.Native.Nat.{_+_, _-_, _/_, _%_}
 use native.Mathlib.Omega.{arith}
 use lib.ListN.{getD}

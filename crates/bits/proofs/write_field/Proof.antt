@@ -1,6 +1,6 @@
 -- The invariant: the first j bits of the field stand, and a turn is a field of one bit more.
 use mathlib.Core.Path.{_≡_, sym, ap, _∙_}
-use Prim.Native.Nat.{_+_, _-_, _/_, _^_, _≤_}
+use Prim.Native.Nat.{_-_, _/_, _^_, _≤_}
 use native.Mathlib.Nat.{pow-zero, div-one, sub-self}
 use native.Mathlib.Omega.{arith}
 use lib.ListN.{length}

@@ -6,7 +6,7 @@ use borrow.Author.Needs.{needs}
 use lib.ListN.{length, take, drop}
 use denote.Ref.{ptr}
 use Rattle.rules.proofs.AnyWords.{place-low, row-begins, row-words}
-use Rattle.book.specs.Parts.{rowPlace}
+use Rattle.rules.specs.Book.{rowStart}
 use Rattle.book.proofs.rows.row.Statement.{statement}
 use Rattle.book.proofs.rows.row.Tie as tie
 
@@ -59,7 +59,7 @@ part-requires : tie.Need-part-requires
 part-requires c κs = search needs
 
 returns : tie.Need-returns
-unfolding rowPlace
+unfolding rowStart
 returns c =
     let a = c .before .before .before .before .before .before .before .args in
     let p = c .before .before .before .before .before .place-of in

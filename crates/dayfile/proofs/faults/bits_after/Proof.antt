@@ -1,8 +1,7 @@
 -- Where the length is right, at most seven bits stand after the last vertex, and past the end there is none.
-use mathlib.Core.Path.{_≡_, sym, ap, _∙_}
+use mathlib.Core.Path.{_≡_, sym, _∙_}
 use lib.ListN.{length}
-use lib.Dec.{eqb}
-use Rattle.rules.specs.File.{field, fileDim, fileCells, bitsOf, lengthOf}
+use Rattle.rules.specs.File.{fileDim, fileCells, lengthOf}
 use Rattle.rules.proofs.Head.{head-dim, head-cells, head-length}
 use Rattle.rules.proofs.Padded.{pad-field}
 use borrow.Author.Needs.{needs}

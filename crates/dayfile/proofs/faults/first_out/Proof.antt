@@ -1,5 +1,5 @@
 -- The invariant: the lowest cell with the fault is c after it among the cells from c on.
-use mathlib.Core.Path.{_≡_, refl, sym, _∙_}
+use mathlib.Core.Path.{_≡_, sym, _∙_}
 use mathlib.Core.Bool.{true, false}
 use Prim.Native.Nat.{_+_, _-_, _≤_}
 use native.Mathlib.Nat.{zero-add}
@@ -15,10 +15,10 @@ use Rattle.dayfile.proofs.faults.first_out.Statement.{statement}
 use Rattle.dayfile.proofs.faults.first_out.Tie as tie
 
 abbrev Inv-loop : tie.InvT-loop
-Inv-loop file head count dim n c₀ c = (c ≤ count) × (c + firstAt (outOf (fileVertices file)) (drop c (cellsInFile file)) ≡ firstAt (outOf (fileVertices file)) (cellsInFile file))
+Inv-loop file head count dim n at₀ at = (at ≤ count) × (at + firstAt (outOf (fileVertices file)) (drop at (cellsInFile file)) ≡ firstAt (outOf (fileVertices file)) (cellsInFile file))
 
 abbrev μ-loop : tie.MeasureT-loop
-μ-loop file head count dim n c₀ c = count - c
+μ-loop file head count dim n at₀ at = count - at
 
 cells-requires : tie.Need-cells-requires Inv-loop μ-loop
 cells-requires c κs = tt
@@ -55,12 +55,12 @@ returns c =
     let n : c .before .before .before .before .before .before .cells .result ≡ fileCells f = c .before .before .before .before .before .before .cells .ensures ∙ rw (c .before .before .before .before .before .before .before .before .pre) (head-cells f) in
     let d : c .before .before .before .before .before .dimension .result ≡ fileDim f = c .before .before .before .before .before .dimension .ensures ∙ rw (c .before .before .before .before .before .before .before .before .pre) (head-dim f) in
     let t = c .before .before .before .before .loop in
-    let e : outOf (fileVertices f) (fileCell f (t .c)) ≡ true
-    = rw (c .before .before .before .before .before .before .before .before .pre, head-vertices f, c .before .before .in-file .ensures, d, cell-front f (t .c)) at (sym (c .before .out-of .ensures)) ∙ c .if1 .taken in
-    sym (first-found (outOf (fileVertices f)) (fileCell f) (fileCells f) (t .c) (omega arith) e) ∙ t .inv .1
+    let e : outOf (fileVertices f) (fileCell f (t .at)) ≡ true
+    = rw (c .before .before .before .before .before .before .before .before .pre, head-vertices f, c .before .before .in-file .ensures, d, cell-front f (t .at)) at (sym (c .before .out-of .ensures)) ∙ c .if1 .taken in
+    sym (first-found (outOf (fileVertices f)) (fileCell f) (fileCells f) (t .at) (omega arith) e) ∙ t .inv .1
 
-add-c : tie.Need-add-c Inv-loop μ-loop
-add-c c = omega arith
+add-at : tie.Need-add-at Inv-loop μ-loop
+add-at c = omega arith
 
 loop-less : tie.Need-loop-less Inv-loop μ-loop
 loop-less c = omega arith
@@ -73,9 +73,9 @@ loop-again c =
     let n : c .before .before .before .before .before .before .cells .result ≡ fileCells f = c .before .before .before .before .before .before .cells .ensures ∙ rw (c .before .before .before .before .before .before .before .before .pre) (head-cells f) in
     let d : c .before .before .before .before .before .dimension .result ≡ fileDim f = c .before .before .before .before .before .dimension .ensures ∙ rw (c .before .before .before .before .before .before .before .before .pre) (head-dim f) in
     let t = c .before .before .before .before .loop in
-    let e : outOf (fileVertices f) (fileCell f (t .c)) ≡ false
-    = rw (c .before .before .before .before .before .before .before .before .pre, head-vertices f, c .before .before .in-file .ensures, d, cell-front f (t .c)) at (sym (c .before .out-of .ensures)) ∙ c .if1 .left in
-    (omega arith, sym (first-passed (outOf (fileVertices f)) (fileCell f) (fileCells f) (t .c) (omega arith) e) ∙ t .inv .1)
+    let e : outOf (fileVertices f) (fileCell f (t .at)) ≡ false
+    = rw (c .before .before .before .before .before .before .before .before .pre, head-vertices f, c .before .before .in-file .ensures, d, cell-front f (t .at)) at (sym (c .before .out-of .ensures)) ∙ c .if1 .left in
+    (omega arith, sym (first-passed (outOf (fileVertices f)) (fileCell f) (fileCells f) (t .at) (omega arith) e) ∙ t .inv .1)
 
 returns-2 : tie.Need-returns-2 Inv-loop μ-loop
 unfolding cellsInFile
@@ -85,7 +85,7 @@ returns-2 c =
     let n : c .before .before .before .cells .result ≡ fileCells f = c .before .before .before .cells .ensures ∙ rw (c .before .before .before .before .before .pre) (head-cells f) in
     let d : c .before .before .dimension .result ≡ fileDim f = c .before .before .dimension .ensures ∙ rw (c .before .before .before .before .before .pre) (head-dim f) in
     let t = c .before .loop in
-    sym (first-none (outOf (fileVertices f)) (fileCell f) (fileCells f) (t .c) (omega arith) (omega arith)) ∙ t .inv .1
+    sym (first-none (outOf (fileVertices f)) (fileCell f) (fileCells f) (t .at) (omega arith) (omega arith)) ∙ t .inv .1
 
 pub first-out-spec : {M : Type 1} → statement M
 first-out-spec =
@@ -101,7 +101,7 @@ first-out-spec =
     in-file-requires
     out-of-requires
     returns
-    add-c
+    add-at
     loop-less
     loop-again
     returns-2)

@@ -1,32 +1,31 @@
--- The invariants: the lowest cell with the fault is c after it among the cells from c on; the vertices before j are apart; vertex j is apart from those before i.
+-- The invariants: the lowest cell with the fault is c after it among the cells from c on; each vertex before i is apart from those after it; vertex i is apart from those before j.
 use mathlib.Core.Path.{_≡_, sym, _∙_}
 use mathlib.Core.Bool.{true, false}
 use mathlib.Core.List.{_++_}
 use Prim.Native.Nat.{ℕ, _+_, _-_, _≤_, _<_}
 use native.Mathlib.Nat.{zero-add}
 use native.Mathlib.Omega.{arith}
-use borrow.Author.Count.{below-more}
 use lib.ListN.{length, drop, getD, replicate}
 use Rattle.rules.specs.Lists.{firstAt}
 use Rattle.rules.specs.File.{fileDim, fileCells, fileCell, cellsInFile, twice}
 use Rattle.rules.proofs.Fields.{dim-below}
 use Rattle.rules.proofs.Head.{head-dim, head-cells}
-use Rattle.rules.proofs.Searched.{first-passed, first-found, first-none, Apart, apart-more, apart-front, twice-front}
+use Rattle.rules.proofs.Searched.{first-passed, first-found, first-none, Apart, ApartFrom, from-none, from-more, before-more, apart-all, apart-front, twice-front}
 use Rattle.dayfile.proofs.Four.{cell-length}
 use Rattle.dayfile.proofs.faults.first_twice.Statement.{statement}
 use Rattle.dayfile.proofs.faults.first_twice.Tie as tie
 
 abbrev Inv-loop2 : tie.InvT-loop2
-Inv-loop2 file count dim n c v j i₀ i = (i ≤ j) × ((a : ℕ) → a < i → getD v a 0 ≡ getD v j 0 → ⊥)
+Inv-loop2 file count dim n c v i j₀ j = (i < j) × (j ≤ n) × ApartFrom v i j
 
 abbrev μ-loop2 : tie.MeasureT-loop2
-μ-loop2 file count dim n c v j i₀ i = j - i
+μ-loop2 file count dim n c v i j₀ j = n - j
 
 abbrev Inv-loop : tie.InvT-loop
-Inv-loop file count dim n c v j₀ j = (1 ≤ j) × (j ≤ n) × Apart v j
+Inv-loop file count dim n c v i₀ i = (i ≤ n) × ((a : ℕ) → a < i → ApartFrom v a n)
 
 abbrev μ-loop : tie.MeasureT-loop
-μ-loop file count dim n c v j₀ j = n - j
+μ-loop file count dim n c v i₀ i = n - i
 
 abbrev Inv-cells : tie.InvT-cells
 Inv-cells file count dim n c₀ c = (c ≤ count) × (c + firstAt twice (drop c (cellsInFile file)) ≡ firstAt twice (cellsInFile file))
@@ -57,10 +56,13 @@ in-file-requires c κs =
     d
 
 loop-holds : tie.Need-loop-holds Inv-loop2 μ-loop2 Inv-loop μ-loop Inv-cells μ-cells
-loop-holds c = (omega arith, omega arith, λ b l a k e. omega arith)
+loop-holds c = (omega arith, λ a l. absurd (omega arith))
+
+add-j : tie.Need-add-j Inv-loop2 μ-loop2 Inv-loop μ-loop Inv-cells μ-cells
+add-j c = omega arith
 
 loop2-holds : tie.Need-loop2-holds Inv-loop2 μ-loop2 Inv-loop μ-loop Inv-cells μ-cells
-loop2-holds c = (omega arith, λ a l e. omega arith)
+loop2-holds c = (omega arith, omega arith, from-none (c .before .before .in-file .result) (c .before .loop .i))
 
 mul-if1 : tie.Need-mul-if1 Inv-loop2 μ-loop2 Inv-loop μ-loop Inv-cells μ-cells
 mul-if1 c =
@@ -86,23 +88,19 @@ array-read-if1-2 c =
     let d : c .before .before .before .before .before .before .before .dimension .result ≡ fileDim f = c .before .before .before .before .before .before .before .dimension .ensures ∙ rw (c .before .before .before .before .before .before .before .before .before .before .pre) (head-dim f) in
     omega (arith, dim-below f)
 
-add-i : tie.Need-add-i Inv-loop2 μ-loop2 Inv-loop μ-loop Inv-cells μ-cells
-add-i c =
-    let f = c .before .before .before .before .before .before .before .before .before .before .before .args .file .now in
-    let d : c .before .before .before .before .before .before .before .before .dimension .result ≡ fileDim f = c .before .before .before .before .before .before .before .before .dimension .ensures ∙ rw (c .before .before .before .before .before .before .before .before .before .before .before .pre) (head-dim f) in
-    omega (arith, dim-below f)
+add-j-2 : tie.Need-add-j-2 Inv-loop2 μ-loop2 Inv-loop μ-loop Inv-cells μ-cells
+add-j-2 c = omega arith
 
 loop2-less : tie.Need-loop2-less Inv-loop2 μ-loop2 Inv-loop μ-loop Inv-cells μ-cells
 loop2-less c = omega arith
 
 loop2-again : tie.Need-loop2-again Inv-loop2 μ-loop2 Inv-loop μ-loop Inv-cells μ-cells
-loop2-again c = (omega arith, below-more _ _ (c .before .before .loop2 .inv .1) (c .if1 .left))
+loop2-again c =
+    let u = c .before .before .loop2 in
+    (omega arith, omega arith, from-more (c .before .before .before .before .before .in-file .result) (c .before .before .before .before .loop .i) (u .j) (u .inv .2) (c .if1 .left))
 
-add-j : tie.Need-add-j Inv-loop2 μ-loop2 Inv-loop μ-loop Inv-cells μ-cells
-add-j c =
-    let f = c .before .before .before .before .before .before .before .before .before .before .args .file .now in
-    let d : c .before .before .before .before .before .before .before .dimension .result ≡ fileDim f = c .before .before .before .before .before .before .before .dimension .ensures ∙ rw (c .before .before .before .before .before .before .before .before .before .before .pre) (head-dim f) in
-    omega (arith, dim-below f)
+add-i : tie.Need-add-i Inv-loop2 μ-loop2 Inv-loop μ-loop Inv-cells μ-cells
+add-i c = omega arith
 
 loop-less : tie.Need-loop-less Inv-loop2 μ-loop2 Inv-loop μ-loop Inv-cells μ-cells
 loop-less c = omega arith
@@ -111,7 +109,11 @@ loop-again : tie.Need-loop-again Inv-loop2 μ-loop2 Inv-loop μ-loop Inv-cells �
 loop-again c =
     let t = c .before .before .before .loop in
     let u = c .before .loop2 in
-    (omega arith, omega arith, apart-more (c .before .before .before .before .in-file .result) (t .j) (t .inv .2) (λ a l e. u .inv .1 a (omega arith) e))
+    let v = c .before .before .before .before .in-file .result in
+    let m = c .before .before .before .before .before .before .before .dimension .result + 1 in
+    let e : u .j ≡ m = omega arith in
+    let g : ApartFrom v (t .i) m = rw e at (u .inv .2) in
+    (omega arith, before-more v (t .i) m (t .inv .1) g)
 
 add-c : tie.Need-add-c Inv-loop2 μ-loop2 Inv-loop μ-loop Inv-cells μ-cells
 add-c c = omega arith
@@ -127,8 +129,11 @@ cells-again c =
     let n : c .before .before .before .before .before .before .cells2 .result ≡ fileCells f = c .before .before .before .before .before .before .cells2 .ensures ∙ rw (c .before .before .before .before .before .before .before .before .pre) (head-cells f) in
     let t = c .before .before .before .before .cells in
     let v = fileCell f (t .c) ++ replicate (3 - fileDim f) 0 in
-    let q : c .before .loop .j ≡ length (fileCell f (t .c)) = rw (cell-length f (t .c)) (omega arith) in
-    let g : Apart v (length (fileCell f (t .c))) = rw (← q, ← c .before .before .in-file .ensures) (c .before .loop .inv .2) in
+    let w = c .before .before .in-file .result in
+    let m = c .before .before .before .before .before .dimension .result + 1 in
+    let q : m ≡ length (fileCell f (t .c)) = rw (cell-length f (t .c)) (omega arith) in
+    let a : Apart w m = apart-all w m (λ k l. c .before .loop .inv .1 k (omega arith)) in
+    let g : Apart v (length (fileCell f (t .c))) = rw (c .before .before .in-file .ensures, q) at a in
     let e : twice (fileCell f (t .c)) ≡ false = apart-front (fileCell f (t .c)) (replicate (3 - fileDim f) 0) g in
     (omega arith, sym (first-passed twice (fileCell f) (fileCells f) (t .c) (omega arith) e) ∙ t .inv .1)
 
@@ -149,8 +154,8 @@ returns-2 c =
     let n : c .before .before .before .before .before .before .before .before .before .cells2 .result ≡ fileCells f = c .before .before .before .before .before .before .before .before .before .cells2 .ensures ∙ rw (c .before .before .before .before .before .before .before .before .before .before .before .pre) (head-cells f) in
     let t = c .before .before .before .before .before .before .before .cells in
     let v = fileCell f (t .c) ++ replicate (3 - fileDim f) 0 in
-    let j = c .before .before .before .before .loop .j in
-    let i = c .before .before .loop2 .i in
+    let i = c .before .before .before .before .loop .i in
+    let j = c .before .before .loop2 .j in
     let q : getD v i 0 ≡ getD v j 0 = rw (← c .before .before .before .before .before .in-file .ensures) (c .if1 .taken) in
     let e : twice (fileCell f (t .c)) ≡ true = twice-front (fileCell f (t .c)) (replicate (3 - fileDim f) 0) i j (omega arith) (rw (cell-length f (t .c)) (omega arith)) q in
     sym (first-found twice (fileCell f) (fileCells f) (t .c) (omega arith) e) ∙ t .inv .1
@@ -172,15 +177,16 @@ first-twice-spec =
     cells-holds
     in-file-requires
     loop-holds
+    add-j
     loop2-holds
     mul-if1
     array-read-if1
     mul-if1-2
     array-read-if1-2
-    add-i
+    add-j-2
     loop2-less
     loop2-again
-    add-j
+    add-i
     loop-less
     loop-again
     add-c

@@ -1,7 +1,6 @@
 -- The bytes are cleared, then the head and the vertices are written: the file's bits.
-use mathlib.Core.Path.{_≡_, _∙_}
+use mathlib.Core.Path.{_∙_}
 use lib.ListN.{length}
-use native.Mathlib.Omega.{arith}
 use Rattle.dayfile.proofs.Filled.{filled}
 use borrow.Author.Needs.{needs}
 use Rattle.dayfile.proofs.written.fill.Statement.{statement}

@@ -1,6 +1,6 @@
 -- The invariant: the bytes now, with the vertices from k on still to come, are the bytes at the start with all of them; past the end nothing is written.
 use mathlib.Core.Path.{_≡_, refl, sym, ap, _∙_}
-use Prim.Native.Nat.{_+_, _-_, _≤_}
+use Prim.Native.Nat.{_-_, _≤_}
 use native.Mathlib.Omega.{arith}
 use lib.ListN.{length, getD, drop}
 use Rattle.rules.proofs.BitsWritten.{Bytes, length-with, bytes-with}

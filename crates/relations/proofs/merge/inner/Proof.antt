@@ -28,7 +28,7 @@ base e =
     record {
       first = e .before .before .put .ensures;
       before = omega arith;
-      same = λ vs q. innerRow-front vs (a .book .now) (min (a .dst) (length (a .book .now))) q (a .own) (a .n) (a .back) (a .v) (s .pre .0) (a .sub) (a .b) (s .pre .1 .0);
+      same = λ vs q. innerRow-front vs (a .book .now) (min (a .dst) (length (a .book .now))) q (a .own) (a .n) (a .back) (a .v) (s .pre .0 .through) (a .sub) (a .b) (s .pre .1 .0);
       short = λ vs i. omega (arith, length-innerRow vs (a .own) (a .n) (a .back) (a .v) (a .sub) (a .b) i, s .pre .1 .1 .0);
     }
 

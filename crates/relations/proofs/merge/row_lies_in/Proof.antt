@@ -60,7 +60,9 @@ sub-contained : tie.Need-sub-contained
 sub-contained c = omega (arith, ends (c .before .before .before))
 
 contained-requires : tie.Need-contained-requires
-contained-requires c κs = (omega (arith, ends (c .before .before .before)), c .before .before .before .pre .1 .0)
+contained-requires c κs =
+    let s = c .before .before .before in
+    (omega (arith, ends s, s .pre .1 .0), omega (arith, ends s, s .pre .1 .0))
 
 returns : tie.Need-returns
 unfolding liesIn rowAt

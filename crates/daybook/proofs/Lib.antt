@@ -1,0 +1,6 @@
+pub mod Loading
+pub mod Writing
+pub mod RowCases
+pub mod NumberCases
+pub mod Signed
+pub mod Alike

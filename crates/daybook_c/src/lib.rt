@@ -1,0 +1,125 @@
+// The C interface: each call of `daybook` under the name that include/daybook.h declares. The result is the paper's number, 0 where accepted; what an out reference refers to is written only where the paper gives something, and is otherwise left alone.
+ghost use mathlib.Core.Path.{_≡_};
+ghost use mathlib.Core.Bool.{cond, _||_};
+ghost use Prim.Native.Nat.{_+_, _<_};
+ghost use lib.ListN.{length};
+ghost use lib.Dec.{eqb};
+ghost use Rattle.rules.specs.Book.{key, rowStart, rowOf};
+ghost use Rattle.rules.specs.Calls.{faultCell, loadNumber, loadWords, rowNumber, writeNumber, writeLength, writeBytes, eulerNumber, eulerOf, heldNumber, heldCount};
+use book::Place;
+use daybook::Counted;
+use daybook::EulerNumber;
+use daybook::Loaded;
+use daybook::Written;
+
+// Loads a day file; with 7 and 8 the cell is written.
+#[no_mangle]
+pub extern "C" fn daybook_load(file: &[u8], book: &mut [u32], cell: &mut u32) -> u32
+    ensures number { λ r. ⌜ r ≡ loadNumber (now (file .entry)) (now (book .entry)) ⌝ }
+    ensures cell { λ r. ⌜ now (cell .exit) ≡ cond (eqb r 7 || eqb r 8) (faultCell (now (file .entry))) (now (cell .entry)) ⌝ }
+    ensures words { λ r. ⌜ now (book .exit) ≡ loadWords (now (file .entry)) (now (book .entry)) ⌝ }
+{
+    match daybook::load(file, book) {
+        Loaded::Accepted => 0,
+        Loaded::FileTooShort => 1,
+        Loaded::NoDimension => 2,
+        Loaded::ManyVertices => 3,
+        Loaded::ManyCells => 4,
+        Loaded::SpareBits => 5,
+        Loaded::FileLength => 6,
+        Loaded::VertexOut(c) => {
+            *cell = c.0;
+            7
+        }
+        Loaded::VertexTwice(c) => {
+            *cell = c.0;
+            8
+        }
+        Loaded::BitsAfter => 9,
+        Loaded::NoRoom => 13,
+    }
+}
+
+// The place where row i of the relation of key k begins, and how many words it has.
+fn place_of_row(book: &[u32], k: u32, i: u32) -> Place
+    requires { ⌜ k < 16 ⌝ }
+    ensures { λ r. ⌜ r .0 ≡ rowStart (now (book .entry)) k i ⌝ }
+{
+    let at = book::place_of(book, k).0;
+    let first = book::word(book, Place(at + i as usize)) as usize;
+    Place(at + book::count(book, k / 4) as usize + 1 + first)
+}
+
+// Finds row i of d→e: where accepted, its first word's place and how many words it has are written.
+#[no_mangle]
+pub extern "C" fn daybook_row(
+    book: &[u32],
+    d: u32,
+    e: u32,
+    i: u32,
+    start: &mut usize,
+    count: &mut usize,
+) -> u32
+    ensures number { λ r. ⌜ r ≡ rowNumber (now (book .entry)) d e i ⌝ }
+    ensures start { λ r. ⌜ now (start .exit) ≡ cond (eqb r 0) (rowStart (now (book .entry)) (key d e) i) (now (start .entry)) ⌝ }
+    ensures count { λ r. ⌜ now (count .exit) ≡ cond (eqb r 0) (length (rowOf (now (book .entry)) (key d e) i)) (now (count .entry)) ⌝ }
+{
+    let number = daybook::row_number(book, d, e, i);
+    if number != 0 {
+        return number;
+    }
+    let row = daybook::row(book, d, e, i);
+    *count = row.len();
+    *start = place_of_row(book, book::key(d, e), i).0;
+    0
+}
+
+// Writes the book's file; where accepted, its length is written.
+#[no_mangle]
+pub extern "C" fn daybook_write(book: &[u32], bytes: &mut [u8], length: &mut usize) -> u32
+    ensures number { λ r. ⌜ r ≡ writeNumber (now (book .entry)) (now (bytes .entry)) ⌝ }
+    ensures length { λ r. ⌜ now (length .exit) ≡ cond (eqb r 0) (writeLength (now (book .entry))) (now (length .entry)) ⌝ }
+    ensures bytes { λ r. ⌜ now (bytes .exit) ≡ writeBytes (now (book .entry)) (now (bytes .entry)) ⌝ }
+{
+    match daybook::write(book, bytes) {
+        Written::Bytes(n) => {
+            *length = n;
+            0
+        }
+        Written::FrameBroken => 10,
+        Written::RowsBroken => 11,
+        Written::BufferTooShort => 18,
+    }
+}
+
+// The Euler number, written where accepted.
+#[no_mangle]
+pub extern "C" fn daybook_euler(book: &[u32], number: &mut i64) -> u32
+    ensures number { λ r. ⌜ r ≡ eulerNumber (now (book .entry)) ⌝ }
+    ensures value { λ r. ⌜ now (number .exit) ≡ cond (eqb r 0) (eulerOf (now (book .entry))) (now (number .entry)) ⌝ }
+{
+    match daybook::euler(book) {
+        EulerNumber::Number(n) => {
+            *number = n;
+            0
+        }
+        EulerNumber::FrameBroken => 10,
+        EulerNumber::RowsBroken => 11,
+        EulerNumber::NeedMissing => 15,
+    }
+}
+
+// The number of relations held, written where accepted.
+#[no_mangle]
+pub extern "C" fn daybook_held_count(book: &[u32], count: &mut u32) -> u32
+    ensures number { λ r. ⌜ r ≡ heldNumber (now (book .entry)) ⌝ }
+    ensures count { λ r. ⌜ now (count .exit) ≡ cond (eqb r 0) (heldCount (now (book .entry))) (now (count .entry)) ⌝ }
+{
+    match daybook::held_count(book) {
+        Counted::Relations(n) => {
+            *count = n;
+            0
+        }
+        Counted::FrameBroken => 10,
+    }
+}

@@ -1,0 +1,65 @@
+-- The invariant: the vertices of the groups so far that bear the stamp are written.
+use mathlib.Core.Path.{_≡_, refl, _∙_}
+use Prim.Native.Nat.{_+_, _*_, _-_, _≤_}
+use lib.ListN.{length}
+use native.Mathlib.Omega.{arith}
+use Rattle.rules.specs.Lists.{upTo, keep}
+use Rattle.rules.proofs.Numbered.{length-upTo}
+use Rattle.relations.specs.Words.{Written}
+use Rattle.relations.specs.Points.{bears}
+use Rattle.relations.proofs.Appended.{written-none, kept-below, kept-range}
+use Rattle.relations.proofs.points.write_met.Statement.{statement}
+use Rattle.relations.proofs.points.write_met.Tie as tie
+use Rattle.relations.proofs.points.write_touched.Reads as write-touched-reads
+
+abbrev Inv-loop : tie.InvT-loop
+Inv-loop book₀ met touched stamp groups dst at₀ g₀ book at g = (g ≤ groups) × (length book ≡ length book₀) × Written book₀ dst (keep (bears met stamp) (upTo (g * 32))) at book
+
+abbrev μ-loop : tie.MeasureT-loop
+μ-loop book₀ met touched stamp groups dst at₀ g₀ book at g = groups - g
+
+loop-holds : tie.Need-loop-holds Inv-loop μ-loop
+loop-holds c = (omega arith, refl, unfold upTo keep in written-none _ _ _ refl)
+
+write-touched-requires : tie.Need-write-touched-requires Inv-loop μ-loop
+write-touched-requires c κs =
+    let t = c .before in
+    let l = t .before .loop in
+    let s = t .before .before .before in
+    (omega arith, (s .pre .1 .0, omega (arith, kept-below _ _ (l .inv .2), length-upTo (l .g * 32), s .pre .1 .1)))
+
+add-g : tie.Need-add-g Inv-loop μ-loop
+add-g c = omega arith
+
+loop-less : tie.Need-loop-less Inv-loop μ-loop
+loop-less c = omega arith
+
+loop-again : tie.Need-loop-again Inv-loop μ-loop
+loop-again c =
+    let call = c .before .before in
+    let t = call .before .before in
+    let l = t .before .loop in
+    let e : (l .g + 1) * 32 ≡ l .g * 32 + 32 = omega arith in
+    (omega arith, call .write-touched .kept .0 ∙ l .inv .1, rw e (kept-range _ (l .g * 32) 32 (l .inv .2) (call .write-touched .ensures)))
+
+same-length : tie.Need-same-length Inv-loop μ-loop
+same-length c = c .before .loop .inv .1
+
+returns : tie.Need-returns Inv-loop μ-loop
+returns c =
+    let e : c .before .loop .g ≡ c .before .before .before .args .groups = omega arith in
+    rw e at (c .before .loop .inv .2)
+
+pub write-met-spec : {M : Type 1} → statement M
+write-met-spec =
+    tie.close
+    (tie.spec
+    Inv-loop
+    μ-loop
+    loop-holds
+    write-touched-requires
+    add-g
+    loop-less
+    loop-again
+    same-length
+    returns)
