@@ -1,0 +1,10 @@
+-- Laws for the proofs of this crate.
+mod Entities
+mod Walk
+mod Chained
+mod Padding
+mod Lexicographic
+mod Meeting
+mod Rows
+mod Standing
+mod Determined
