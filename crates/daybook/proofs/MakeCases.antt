@@ -1,0 +1,114 @@
+-- Make and Ask, case by case: which rule is broken first, and the words.
+use mathlib.Core.Path.{_≡_, refl, sym, ap, _∙_}
+use mathlib.Core.Bool.{Bool, true, false, cond, not, _||_}
+use mathlib.Core.List.{List}
+use Prim.Native.Nat.{ℕ, suc, _≤_, _<_}
+use native.Mathlib.Omega.{arith}
+use lib.ListN.{length, getD, take}
+use lib.Dec.{eqb, ltb, leb}
+use borrow.Author.Tests.{ne-eqb, lt-ltb, le-ltb, leb-true, leb-false}
+use Rattle.rules.specs.Lists.{allOf, filled}
+use Rattle.rules.specs.Book.{dim, key, held, needs, frameRight, rowsRight}
+use Rattle.rules.specs.Calls.{firstBroken, added, withKey, asked, makeRules, makeNumber, makeWords, askRules, askNumber, askWords}
+
+-- what a call of Make has to give
+pub record Makes (ws : List ℕ) (d e number : ℕ) (vs : List ℕ) : Type 0 where
+  pub number-is : number ≡ makeNumber ws d e
+  pub words-are : vs ≡ makeWords ws d e
+
+-- and of Ask
+pub record Asks (ws : List ℕ) (d e number : ℕ) (vs : List ℕ) : Type 0 where
+  pub number-is : number ≡ askNumber ws d e
+  pub words-are : vs ≡ askWords ws d e
+
+make-words : (ws : List ℕ) (d e n : ℕ) → makeNumber ws d e ≡ suc n → makeWords ws d e ≡ ws
+unfolding makeWords
+make-words ws d e n q = rw (q, ne-eqb (suc n) 0 (λ z. omega arith))
+
+ask-words : (ws : List ℕ) (d e n : ℕ) → askNumber ws d e ≡ suc n → askWords ws d e ≡ ws
+unfolding askWords
+ask-words ws d e n q = rw (q, ne-eqb (suc n) 0 (λ z. omega arith))
+
+either : (a b : Bool) → (a ≡ true) → (a || b) ≡ true
+either a b h = rw h
+
+other : (a b : Bool) → (b ≡ true) → (a || b) ≡ true
+other true b h = refl
+other false b h = h
+
+module _ (ws : List ℕ) (d e : ℕ) where
+  make-refused : (n : ℕ) → makeNumber ws d e ≡ suc n → Makes ws d e (suc n) ws
+  make-refused n q = record { number-is = sym q; words-are = sym (make-words ws d e n q) }
+
+  ask-refused : (n : ℕ) → askNumber ws d e ≡ suc n → Asks ws d e (suc n) ws
+  ask-refused n q = record { number-is = sym q; words-are = sym (ask-words ws d e n q) }
+
+  pub make-frame : frameRight ws ≡ false → Makes ws d e 10 ws
+  make-frame f = make-refused 9 (unfold makeNumber makeRules firstBroken in rw f)
+
+  pub ask-frame : frameRight ws ≡ false → Asks ws d e 10 ws
+  ask-frame f = ask-refused 9 (unfold askNumber askRules firstBroken in rw f)
+
+  module _ (f : frameRight ws ≡ true) where
+    pub make-rows : rowsRight ws ≡ false → Makes ws d e 11 ws
+    make-rows r = make-refused 10 (unfold makeNumber makeRules firstBroken in rw (f, r))
+
+    pub ask-rows : rowsRight ws ≡ false → Asks ws d e 11 ws
+    ask-rows r = ask-refused 10 (unfold askNumber askRules firstBroken in rw (f, r))
+
+    module _ (r : rowsRight ws ≡ true) where
+      pub make-first : dim ws < d → Makes ws d e 12 ws
+      make-first l = make-refused 11 (unfold makeNumber makeRules firstBroken in rw (f, r, either (ltb (dim ws) d) (ltb (dim ws) e) (lt-ltb (dim ws) d l)))
+
+      pub ask-first : dim ws < d → Asks ws d e 12 ws
+      ask-first l = ask-refused 11 (unfold askNumber askRules firstBroken in rw (f, r, either (ltb (dim ws) d) (ltb (dim ws) e) (lt-ltb (dim ws) d l)))
+
+      pub make-second : dim ws < e → Makes ws d e 12 ws
+      make-second l = make-refused 11 (unfold makeNumber makeRules firstBroken in rw (f, r, other (ltb (dim ws) d) (ltb (dim ws) e) (lt-ltb (dim ws) e l)))
+
+      pub ask-second : dim ws < e → Asks ws d e 12 ws
+      ask-second l = ask-refused 11 (unfold askNumber askRules firstBroken in rw (f, r, other (ltb (dim ws) d) (ltb (dim ws) e) (lt-ltb (dim ws) e l)))
+
+      module _ (a : d ≤ dim ws) (b : e ≤ dim ws) where
+        pub make-held : held ws (key d e) ≡ true → Makes ws d e 14 ws
+        make-held h = make-refused 13 (unfold makeNumber makeRules firstBroken in rw (f, r, le-ltb (dim ws) d a, le-ltb (dim ws) e b, h))
+
+        pub ask-whole : (y : Bool) → y ≡ leb (length (withKey 6 (take (getD ws 4 0) ws) (key d e))) (length ws)
+            → (vs : List ℕ) → vs ≡ cond (leb (length (withKey 6 (take (getD ws 4 0) ws) (key d e))) (length ws)) (filled (length ws) (withKey 6 (take (getD ws 4 0) ws) (key d e))) ws
+            → Asks ws d e (cond y 0 13) vs
+        unfolding asked
+        ask-whole true q vs w =
+            let l : ltb (length ws) (length (withKey 6 (take (getD ws 4 0) ws) (key d e))) ≡ false = le-ltb (length ws) _ (leb-true _ _ (sym q)) in
+            let n : askNumber ws d e ≡ 0 = unfold askNumber askRules firstBroken in rw (f, r, le-ltb (dim ws) d a, le-ltb (dim ws) e b, l) in
+            record { number-is = sym n; words-are = w ∙ rw (← q) (sym (words n)) }
+          where
+            words : askNumber ws d e ≡ 0 → askWords ws d e ≡ filled (length ws) (asked ws d e)
+            words n = unfold askWords in rw n
+        ask-whole false q vs w =
+            let l : ltb (length ws) (length (withKey 6 (take (getD ws 4 0) ws) (key d e))) ≡ true = lt-ltb (length ws) _ (leb-false _ _ (sym q)) in
+            let n : askNumber ws d e ≡ 13 = unfold askNumber askRules firstBroken in rw (f, r, le-ltb (dim ws) d a, le-ltb (dim ws) e b, l) in
+            record { number-is = sym n; words-are = w ∙ rw (← q) (sym (ask-words ws d e 12 n)) }
+
+        module _ (o : held ws (key d e) ≡ false) where
+          pub make-need : allOf (held ws) (needs (dim ws) d e) ≡ false → Makes ws d e 15 ws
+          make-need n = make-refused 14 (unfold makeNumber makeRules firstBroken in rw (f, r, le-ltb (dim ws) d a, le-ltb (dim ws) e b, o, n))
+
+          pub make-whole : allOf (held ws) (needs (dim ws) d e) ≡ true → (y : Bool) → y ≡ leb (length (added ws d e)) (length ws)
+              → (vs : List ℕ) → vs ≡ cond (leb (length (added ws d e)) (length ws)) (filled (length ws) (added ws d e)) ws → Makes ws d e (cond y 0 13) vs
+          make-whole k true q vs w =
+              let l : ltb (length ws) (length (added ws d e)) ≡ false = le-ltb (length ws) _ (leb-true _ _ (sym q)) in
+              let n : makeNumber ws d e ≡ 0 = number l in
+              record { number-is = sym n; words-are = w ∙ rw (← q) (sym (words n)) }
+            where
+              number : ltb (length ws) (length (added ws d e)) ≡ false → makeNumber ws d e ≡ 0
+              number l = unfold makeNumber makeRules firstBroken in rw (f, r, le-ltb (dim ws) d a, le-ltb (dim ws) e b, o, k, l)
+
+              words : makeNumber ws d e ≡ 0 → makeWords ws d e ≡ filled (length ws) (added ws d e)
+              words n = unfold makeWords in rw n
+          make-whole k false q vs w =
+              let l : ltb (length ws) (length (added ws d e)) ≡ true = lt-ltb (length ws) _ (leb-false _ _ (sym q)) in
+              let n : makeNumber ws d e ≡ 13 = number l in
+              record { number-is = sym n; words-are = w ∙ rw (← q) (sym (make-words ws d e 12 n)) }
+            where
+              number : ltb (length ws) (length (added ws d e)) ≡ true → makeNumber ws d e ≡ 13
+              number l = unfold makeNumber makeRules firstBroken in rw (f, r, le-ltb (dim ws) d a, le-ltb (dim ws) e b, o, k, l)
