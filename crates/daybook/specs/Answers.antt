@@ -12,6 +12,10 @@ use Rattle.daybook.specs.declared.answers.EulerNumber.the-variants as eu
 use Rattle.daybook.specs.declared.answers.Counted.{Counted}
 use Rattle.daybook.specs.declared.answers.Counted.the-variants.{Relations}
 use Rattle.daybook.specs.declared.answers.Counted.the-variants as counts
+use Rattle.daybook.specs.declared.answers.Made.{Made}
+use Rattle.daybook.specs.declared.answers.Made.the-variants as makes
+use Rattle.daybook.specs.declared.answers.Asked.{Asked}
+use Rattle.daybook.specs.declared.answers.Asked.the-variants as asks
 
 -- ==== Load
 -- the number of an answer of Load
@@ -82,3 +86,23 @@ countedNumber counts.FrameBroken = 10
 unfoldable pub countedRelations : Counted → ℕ
 countedRelations (Relations n) = n
 countedRelations counts.FrameBroken = 0
+
+-- ==== Make
+-- the number of an answer of Make
+unfoldable pub madeNumber : Made → ℕ
+madeNumber makes.Accepted = 0
+madeNumber makes.FrameBroken = 10
+madeNumber makes.RowsBroken = 11
+madeNumber makes.DimensionOver = 12
+madeNumber makes.NoRoom = 13
+madeNumber makes.AlreadyHeld = 14
+madeNumber makes.NeedMissing = 15
+
+-- ==== Ask
+-- the number of an answer of Ask
+unfoldable pub askedNumber : Asked → ℕ
+askedNumber asks.Accepted = 0
+askedNumber asks.FrameBroken = 10
+askedNumber asks.RowsBroken = 11
+askedNumber asks.DimensionOver = 12
+askedNumber asks.NoRoom = 13

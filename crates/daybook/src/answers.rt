@@ -37,3 +37,23 @@ pub enum Counted {
     Relations(u32),
     FrameBroken,
 }
+
+// Make's answer.
+pub enum Made {
+    Accepted,
+    FrameBroken,
+    RowsBroken,
+    DimensionOver,
+    AlreadyHeld,
+    NeedMissing,
+    NoRoom,
+}
+
+// Ask's answer.
+pub enum Asked {
+    Accepted,
+    FrameBroken,
+    RowsBroken,
+    DimensionOver,
+    NoRoom,
+}

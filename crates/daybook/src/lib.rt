@@ -24,24 +24,31 @@
 // | 8   | a cell names a vertex twice; with the lowest such cell      | load                    |
 // | 9   | bits after the last vertex are set                          | load                    |
 // | 10  | the frame rule is broken                                    | all but load            |
-// | 11  | the row rule is broken; for a row, its own offsets alone    | write, euler, row       |
-// | 12  | d or e is over D                                            | row                     |
-// | 13  | the used length afterwards would pass the book's length     | load                    |
-// | 15  | something that is needed is not held                        | euler                   |
+// | 11  | the row rule is broken; for a row, its own offsets alone    | all but load, held_count |
+// | 12  | d or e is over D                                            | make, ask, row          |
+// | 13  | the used length afterwards would pass the book's length     | load, make, ask         |
+// | 14  | the relation is held already                                | make                    |
+// | 15  | something that is needed is not held                        | make, euler             |
 // | 16  | the relation is not held                                    | row                     |
 // | 17  | i is N_d or more                                            | row                     |
 // | 18  | the byte buffer is shorter than the file                    | write                   |
 mod answers;
+mod asks;
 mod loads;
+mod makes;
 mod numbers;
 mod rows;
 mod writes;
 
+pub use answers::Asked;
 pub use answers::Counted;
 pub use answers::EulerNumber;
 pub use answers::Loaded;
+pub use answers::Made;
 pub use answers::Written;
+pub use asks::ask;
 pub use loads::load;
+pub use makes::make;
 pub use numbers::euler;
 pub use numbers::held_count;
 pub use rows::row;
