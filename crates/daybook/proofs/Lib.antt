@@ -4,3 +4,4 @@ pub mod RowCases
 pub mod NumberCases
 pub mod Signed
 pub mod Alike
+pub mod MakeCases

@@ -79,15 +79,21 @@ module _ (ws : List ℕ) (d e : ℕ) where
         unfolding asked
         ask-whole true q vs w =
             let l : ltb (length ws) (length (withKey 6 (take (getD ws 4 0) ws) (key d e))) ≡ false = le-ltb (length ws) _ (leb-true _ _ (sym q)) in
-            let n : askNumber ws d e ≡ 0 = unfold askNumber askRules firstBroken in rw (f, r, le-ltb (dim ws) d a, le-ltb (dim ws) e b, l) in
+            let n : askNumber ws d e ≡ 0 = number l in
             record { number-is = sym n; words-are = w ∙ rw (← q) (sym (words n)) }
           where
+            number : ltb (length ws) (length (asked ws d e)) ≡ false → askNumber ws d e ≡ 0
+            number l = unfold askNumber askRules firstBroken in rw (f, r, le-ltb (dim ws) d a, le-ltb (dim ws) e b, l)
+
             words : askNumber ws d e ≡ 0 → askWords ws d e ≡ filled (length ws) (asked ws d e)
             words n = unfold askWords in rw n
         ask-whole false q vs w =
             let l : ltb (length ws) (length (withKey 6 (take (getD ws 4 0) ws) (key d e))) ≡ true = lt-ltb (length ws) _ (leb-false _ _ (sym q)) in
-            let n : askNumber ws d e ≡ 13 = unfold askNumber askRules firstBroken in rw (f, r, le-ltb (dim ws) d a, le-ltb (dim ws) e b, l) in
+            let n : askNumber ws d e ≡ 13 = number l in
             record { number-is = sym n; words-are = w ∙ rw (← q) (sym (ask-words ws d e 12 n)) }
+          where
+            number : ltb (length ws) (length (asked ws d e)) ≡ true → askNumber ws d e ≡ 13
+            number l = unfold askNumber askRules firstBroken in rw (f, r, le-ltb (dim ws) d a, le-ltb (dim ws) e b, l)
 
         module _ (o : held ws (key d e) ≡ false) where
           pub make-need : allOf (held ws) (needs (dim ws) d e) ≡ false → Makes ws d e 15 ws
