@@ -1,6 +1,6 @@
 -- Laws for the proofs of this crate.
 mod Ranges
-mod Placed
+pub mod Placed
 mod Parts
 mod Merging
 mod Turns
@@ -9,15 +9,15 @@ mod Front
 mod Standing
 mod Filled
 mod RowByRow
-mod Appended
-mod Counts
+pub mod Appended
+pub mod Counts
 mod Running
 mod Fills
 mod FillsAll
 mod Picks
 mod Marked
 mod Turning
-mod Linked
-mod Right
+pub mod Linked
+pub mod Right
 mod Stamps
 mod PointRows

@@ -2,7 +2,7 @@
 pub mod merge;
 pub mod points;
 pub mod transpose;
-mod words;
+pub mod words;
 
 use book::Place;
 

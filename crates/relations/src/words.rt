@@ -5,7 +5,7 @@ ghost use lib.ListN.{length, set};
 ghost use Rattle.relations.specs.Words.{startOf};
 
 // Puts `x` at `at`, if the book has that place.
-pub(crate) fn put(book: &mut [u32], at: usize, x: u32)
+pub fn put(book: &mut [u32], at: usize, x: u32)
     ensures { λ r. ⌜ now (book .exit) ≡ set (now (book .entry)) at x ⌝ }
 {
     if at < book.len() {
@@ -14,7 +14,7 @@ pub(crate) fn put(book: &mut [u32], at: usize, x: u32)
 }
 
 // Where row `i` of the relation of `n` rows at `rows` starts.
-pub(crate) fn start_of(book: &[u32], rows: usize, n: usize, i: usize) -> usize
+pub fn start_of(book: &[u32], rows: usize, n: usize, i: usize) -> usize
     requires { ⌜ (rows + n < length (now book)) × (i ≤ n) ⌝ }
     ensures { λ r. ⌜ r ≡ startOf (now (book .entry)) rows n i ⌝ }
 {

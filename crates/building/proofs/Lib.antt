@@ -1,0 +1,9 @@
+-- Laws for the proofs of this crate.
+mod Entities
+mod Walk
+mod Chained
+mod Padding
+mod Lexicographic
+mod Meeting
+mod Rows
+mod Standing

@@ -1,0 +1,3 @@
+-- What the contracts of Build say.
+pub mod Sets
+pub mod Cells
