@@ -5,12 +5,12 @@ ghost use Prim.Native.Nat.{ℕ, _≤_, _<_};
 ghost use lib.ListN.{length, getD};
 ghost use lib.Dec.{eqb, leb};
 ghost use Rattle.rules.specs.Lists.{filled};
-ghost use Rattle.rules.specs.Book.{dim, key, relation};
+ghost use Rattle.rules.specs.Book.{dim, key, held, relation};
+ghost use Rattle.rules.specs.Steps.{onward, nextKey};
 ghost use Rattle.rules.specs.Made.{made};
 ghost use Rattle.rules.specs.Calls.{countAfter, added};
-ghost use Rattle.relations.specs.Words.{Written};
 ghost use Rattle.relations.specs.Ready.{Ready, Stands};
-ghost use Rattle.making.specs.Growth.{Appends, Makable, grown};
+ghost use Rattle.making.specs.Growth.{Appends, Makable, grown, Askable, wanted, Holds, answered};
 use book::Place;
 use relations::Source;
 
@@ -43,18 +43,20 @@ fn append(book: &mut [u32], d: u32, e: u32, used: Place) -> Appended
     if e == 0 {
         if d > 0 {
             let cells = source_of(book, top, 0);
+            let at = cells.at;
             let built = building::build(
                 book,
                 building::Cells {
-                    dim: top,
-                    at: cells.at,
+                    at: at,
                     count: cells.rows,
+                    dim: top,
                 },
                 d,
                 used,
             );
+            let end = built.end;
             return Appended {
-                end: built.end,
+                end: end,
                 rows: built.count,
             };
         }
@@ -108,9 +110,10 @@ pub fn add(book: &mut [u32], d: u32, e: u32) -> bool
     ensures fits { λ r. ⌜ r ≡ leb (length (added (now (book .entry)) d e)) (length (now (book .entry))) ⌝ }
     ensures words { λ r. ⌜ now (book .exit) ≡ grown (now (book .entry)) d e ⌝ }
 {
-    let used = Place(book::word(book, Place(4)) as usize);
-    let at = book::place_of(book, book::key(d, e));
+    let k = book::key(d, e);
+    let at = book::place_of(book, k);
     let mask = book::word(book, Place(1));
+    let used = Place(book::word(book, Place(4)) as usize);
     let new = append(book, d, e, used);
     let end = new.end;
     if book.len() < end.0 {
@@ -120,6 +123,73 @@ pub fn add(book: &mut [u32], d: u32, e: u32) -> bool
     let edges = count_after(book, d, e, new.rows, 1);
     let faces = count_after(book, d, e, new.rows, 2);
     settle::settle(book, at, used, end);
-    settle::set_head(book, mask + (1 << (4 * d + e)), edges, faces, end.0 as u32);
+    settle::set_head(book, mask + (1 << k), edges, faces, end.0 as u32);
     true
+}
+
+// The key to go on with from k: the first of what it is made from that is not held, or k itself.
+fn onward(book: &[u32], k: u32) -> u32
+    requires { ⌜ (dim (now book) ≤ 3) × (k < 16) ⌝ }
+    ensures { λ r. ⌜ r ≡ onward (dim (now (book .entry))) (held (now (book .entry))) k ⌝ }
+{
+    let needs = book::needs_of(book::dim(book), k / 4, k % 4);
+    let keys = needs.keys;
+    let count = needs.count;
+    let mut i: usize = 0;
+    while i < count {
+        let key = keys[i];
+        if !book::held(book, key) {
+            return key;
+        }
+        i += 1;
+    }
+    k
+}
+
+// The key to make next on the way to k.
+fn next_key(book: &[u32], k: u32) -> u32
+    requires { ⌜ (dim (now book) ≤ 3) × (k < 16) ⌝ }
+    ensures { λ r. ⌜ r ≡ nextKey 6 (dim (now (book .entry))) (held (now (book .entry))) k ⌝ }
+{
+    let mut at = k;
+    let mut steps: usize = 6;
+    while steps > 0 {
+        at = onward(book, at);
+        steps -= 1;
+    }
+    at
+}
+
+// Makes what the relation of key k is made from, as far as it is missing, and then it, one after another until one does not fit; says whether all fit.
+pub fn hold(book: &mut [u32], k: u32) -> bool
+    requires { ⌜ Askable (now book) k ⌝ }
+    ensures { λ r. ⌜ Holds (now (book .entry)) k r (now (book .exit)) ⌝ }
+{
+    while !book::held(book, k) {
+        let next = next_key(book, k);
+        if !add(book, next / 4, next % 4) {
+            return false;
+        }
+    }
+    true
+}
+
+// Makes the relation of key k and what it is made from, and says whether they fit; where they do not, the book is as it was.
+pub fn ask_for(book: &mut [u32], k: u32) -> bool
+    requires { ⌜ Askable (now book) k ⌝ }
+    ensures fits { λ r. ⌜ r ≡ leb (length (wanted (now (book .entry)) k)) (length (now (book .entry))) ⌝ }
+    ensures words { λ r. ⌜ now (book .exit) ≡ answered (now (book .entry)) k ⌝ }
+{
+    let head = [
+        book::word(book, Place(0)),
+        book::word(book, Place(1)),
+        book::word(book, Place(2)),
+        book::word(book, Place(3)),
+        book::word(book, Place(4)),
+    ];
+    if hold(book, k) {
+        return true;
+    }
+    settle::give_back(book, head);
+    false
 }
