@@ -1,5 +1,5 @@
 -- Laws for the proofs of this crate.
-pub mod Ranges
+mod Ranges
 pub mod Placed
 mod Parts
 mod Merging

@@ -1,0 +1,3 @@
+pub mod Grown
+mod Dispatch
+mod Walk
