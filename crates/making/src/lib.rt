@@ -1,23 +1,20 @@
-// One relation more in a right book: written behind the used words, settled at its place by key, and the head's words set; or, where it does not fit, the book as it was.
+// Relations made in a right book, in place: one, or one with all that it is made from; where they do not fit, the book is as it was.
 ghost use mathlib.Core.Path.{_≡_};
-ghost use mathlib.Core.Bool.{true, cond};
-ghost use Prim.Native.Nat.{ℕ, _≤_, _<_};
-ghost use lib.ListN.{length, getD};
-ghost use lib.Dec.{eqb, leb};
-ghost use Rattle.rules.specs.Lists.{filled};
-ghost use Rattle.rules.specs.Book.{dim, key, held, relation};
-ghost use Rattle.rules.specs.Steps.{onward, nextKey};
-ghost use Rattle.rules.specs.Made.{made};
+ghost use Prim.Native.Nat.{_≤_, _<_};
+ghost use lib.ListN.{length};
+ghost use lib.Dec.{leb};
+ghost use Rattle.rules.specs.Book.{dim, held};
 ghost use Rattle.rules.specs.Calls.{countAfter, added};
+ghost use Rattle.rules.specs.Steps.{onward, nextKey};
 ghost use Rattle.relations.specs.Ready.{Ready, Stands};
 ghost use Rattle.making.specs.Growth.{Appends, Makable, grown, Askable, wanted, Holds, answered};
 use book::Place;
 use relations::Source;
 
 // A relation written behind the used words: the place after it, and its number of rows where it is d→0 with d > 0.
-pub struct Appended {
-    pub end: Place,
-    pub rows: u32,
+struct Appended {
+    end: Place,
+    rows: u32,
 }
 
 // A relation of the book, to make another from.
@@ -161,7 +158,7 @@ fn next_key(book: &[u32], k: u32) -> u32
 }
 
 // Makes what the relation of key k is made from, as far as it is missing, and then it, one after another until one does not fit; says whether all fit.
-pub fn hold(book: &mut [u32], k: u32) -> bool
+fn hold(book: &mut [u32], k: u32) -> bool
     requires { ⌜ Askable (now book) k ⌝ }
     ensures { λ r. ⌜ Holds (now (book .entry)) k r (now (book .exit)) ⌝ }
 {
