@@ -1,11 +1,11 @@
 -- The key to make next, step by step: the needs listed in an array are those of the rules, and every key on the way is below 16.
 use mathlib.Core.Path.{_≡_, refl, sym, ap, _∙_}
-use mathlib.Core.Bool.{Bool, true, false, cond}
+use mathlib.Core.Bool.{Bool, true, false, cond, not, true≢false}
 use mathlib.Core.List.{List, [], _∷_}
 use Prim.Native.Nat.{ℕ, zero, suc, _+_, _-_, _*_, _/_, _%_, _≤_, _<_}
 use native.Mathlib.Numerals.{add-one}
 use native.Mathlib.Omega.{arith}
-use lib.ListN.{length, getD, drop, replicate, length-append, length-replicate, drop-of-length-le}
+use lib.ListN.{length, getD, drop, length-append, length-replicate, drop-of-length-le}
 use lib.Seq.{drop-cons}
 use lib.Dec.{ltb}
 use native.Mathlib.Decide.{ℕ-discrete}
@@ -17,13 +17,22 @@ use Rattle.rules.proofs.Tests.{left, right}
 use Rattle.rules.proofs.LoadedWords.{getD-filled}
 use Rattle.rules.proofs.Needs.{Kind, set, up, down, level, points, kind, needs-cells, needs-build, needs-up, needs-down, needs-across, needs-vertices}
 
+-- a test, from its opposite
+pub was-on : (b : Bool) → not b ≡ false → b ≡ true
+was-on true q = refl
+was-on false q = absurd (true≢false q)
+
+pub was-off : (b : Bool) → not b ≡ true → b ≡ false
+was-off true q = absurd (true≢false (sym q))
+was-off false q = refl
+
 -- ---- the first key that is not held
 module _ (h : ℕ → Bool) (k : ℕ) (ns : List ℕ) where
-  pub first-past : (i : ℕ) → i < length ns → h (getD ns i 0) ≡ true → firstOff h k (drop (i + 1) ns) ≡ firstOff h k (drop i ns)
+  first-past : (i : ℕ) → i < length ns → h (getD ns i 0) ≡ true → firstOff h k (drop (i + 1) ns) ≡ firstOff h k (drop i ns)
   unfolding firstOff
   first-past i l q = rw (add-one, drop-cons ns i 0, q)
 
-  pub first-found : (i : ℕ) → i < length ns → h (getD ns i 0) ≡ false → getD ns i 0 ≡ firstOff h k (drop i ns)
+  first-found : (i : ℕ) → i < length ns → h (getD ns i 0) ≡ false → getD ns i 0 ≡ firstOff h k (drop i ns)
   unfolding firstOff
   first-found i l q = rw (drop-cons ns i 0, q)
 
@@ -36,8 +45,16 @@ pub three-most : (ns ks : List ℕ) → ks ≡ filled 3 ns → length ks ≡ 3 �
 unfolding filled
 three-most ns ks q n = omega (arith, simp (length-append, length-replicate) at (sym n ∙ ap length q))
 
-pub need-at : (ns ks : List ℕ) → ks ≡ filled 3 ns → (i : ℕ) → getD ks i 0 ≡ getD ns i 0
-need-at ns ks q i = rw q (getD-filled 3 ns i)
+-- need i is held or not, as it is read from the array
+module _ (h : ℕ → Bool) (k : ℕ) (ns ks : List ℕ) (e : ks ≡ filled 3 ns) (n : ℕ) (q : n ≡ length ns) (i : ℕ) (l : i < n) (b : Bool) (r : b ≡ h (getD ks i 0)) where
+  need : getD ks i 0 ≡ getD ns i 0
+  need = rw e (getD-filled 3 ns i)
+
+  pub stops : not b ≡ true → getD ks i 0 ≡ firstOff h k (drop i ns)
+  stops z = need ∙ first-found h k ns i (omega arith) (sym (ap h need) ∙ sym r ∙ was-off b z)
+
+  pub goes : not b ≡ false → firstOff h k (drop (i + 1) ns) ≡ firstOff h k (drop i ns)
+  goes z = first-past h k ns i (omega arith) (sym (ap h need) ∙ sym r ∙ was-on b z)
 
 -- ---- keys below 16
 key-small : (d e : ℕ) → d ≤ 3 → e ≤ 3 → ltb (key d e) 16 ≡ true

@@ -1,23 +1,20 @@
-// One relation more in a right book: written behind the used words, settled at its place by key, and the head's words set; or, where it does not fit, the book as it was.
+// Relations made in a right book, in place: one, or one with all that it is made from; where they do not fit, the book is as it was.
 ghost use mathlib.Core.Path.{_≡_};
-ghost use mathlib.Core.Bool.{true, cond};
-ghost use Prim.Native.Nat.{ℕ, _≤_, _<_};
-ghost use lib.ListN.{length, getD};
-ghost use lib.Dec.{eqb, leb};
-ghost use Rattle.rules.specs.Lists.{filled};
-ghost use Rattle.rules.specs.Book.{dim, key, held, relation};
-ghost use Rattle.rules.specs.Steps.{onward, nextKey};
-ghost use Rattle.rules.specs.Made.{made};
+ghost use Prim.Native.Nat.{_≤_, _<_};
+ghost use lib.ListN.{length};
+ghost use lib.Dec.{leb};
+ghost use Rattle.rules.specs.Book.{dim, held};
 ghost use Rattle.rules.specs.Calls.{countAfter, added};
+ghost use Rattle.rules.specs.Steps.{onward, nextKey};
 ghost use Rattle.relations.specs.Ready.{Ready, Stands};
 ghost use Rattle.making.specs.Growth.{Appends, Makable, grown, Askable, wanted, Holds, answered};
 use book::Place;
 use relations::Source;
 
 // A relation written behind the used words: the place after it, and its number of rows where it is d→0 with d > 0.
-pub struct Appended {
-    pub end: Place,
-    pub rows: u32,
+struct Appended {
+    end: Place,
+    rows: u32,
 }
 
 // A relation of the book, to make another from.
@@ -125,4 +122,71 @@ pub fn add(book: &mut [u32], d: u32, e: u32) -> bool
     settle::settle(book, at, used, end);
     settle::set_head(book, mask + (1 << k), edges, faces, end.0 as u32);
     true
+}
+
+// The key to go on with from k: the first of what it is made from that is not held, or k itself.
+fn onward(book: &[u32], k: u32) -> u32
+    requires { ⌜ (dim (now book) ≤ 3) × (k < 16) ⌝ }
+    ensures { λ r. ⌜ r ≡ onward (dim (now (book .entry))) (held (now (book .entry))) k ⌝ }
+{
+    let needs = book::needs_of(book::dim(book), k / 4, k % 4);
+    let keys = needs.keys;
+    let count = needs.count;
+    let mut i: usize = 0;
+    while i < count {
+        let key = keys[i];
+        if !book::held(book, key) {
+            return key;
+        }
+        i += 1;
+    }
+    k
+}
+
+// The key to make next on the way to k.
+fn next_key(book: &[u32], k: u32) -> u32
+    requires { ⌜ (dim (now book) ≤ 3) × (k < 16) ⌝ }
+    ensures { λ r. ⌜ r ≡ nextKey 6 (dim (now (book .entry))) (held (now (book .entry))) k ⌝ }
+{
+    let mut at = k;
+    let mut steps: usize = 6;
+    while steps > 0 {
+        at = onward(book, at);
+        steps -= 1;
+    }
+    at
+}
+
+// Makes what the relation of key k is made from, as far as it is missing, and then it, one after another until one does not fit; says whether all fit.
+fn hold(book: &mut [u32], k: u32) -> bool
+    requires { ⌜ Askable (now book) k ⌝ }
+    ensures { λ r. ⌜ Holds (now (book .entry)) k r (now (book .exit)) ⌝ }
+{
+    while !book::held(book, k) {
+        let next = next_key(book, k);
+        if !add(book, next / 4, next % 4) {
+            return false;
+        }
+    }
+    true
+}
+
+// Makes the relation of key k and what it is made from, and says whether they fit; where they do not, the book is as it was.
+pub fn ask_for(book: &mut [u32], k: u32) -> bool
+    requires { ⌜ Askable (now book) k ⌝ }
+    ensures fits { λ r. ⌜ r ≡ leb (length (wanted (now (book .entry)) k)) (length (now (book .entry))) ⌝ }
+    ensures words { λ r. ⌜ now (book .exit) ≡ answered (now (book .entry)) k ⌝ }
+{
+    let head = [
+        book::word(book, Place(0)),
+        book::word(book, Place(1)),
+        book::word(book, Place(2)),
+        book::word(book, Place(3)),
+        book::word(book, Place(4)),
+    ];
+    if hold(book, k) {
+        return true;
+    }
+    settle::give_back(book, head);
+    false
 }

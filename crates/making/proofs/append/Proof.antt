@@ -4,105 +4,73 @@ use Rattle.making.proofs.Dispatch.{low, for-sets, sets, for-points, poi
 use borrow.Author.Needs.{needs}
 use Rattle.making.proofs.append.Statement.{statement}
 use Rattle.making.proofs.append.Tie as tie
-use Rattle.making.proofs.append.Reads as reads
-use Rattle.making.proofs.append.Lts as lts
-use Rattle.book.proofs.dim.Reads as dim-reads
-use Rattle.building.proofs.build.Reads as build-reads
-use Rattle.making.proofs.source_of.Reads as source-of-reads
-use Rattle.relations.proofs.merge.insides.Reads as insides-reads
-use Rattle.relations.proofs.merge.neighbours.Reads as neighbours-reads
-use Rattle.relations.proofs.points.vertex_neighbours.Reads as vertex-neighbours-reads
-use Rattle.relations.proofs.transpose.transpose.Reads as transpose-reads
 
--- src/lib.rt:42:9
 dim-requires : tie.Need-dim-requires
 dim-requires c κs = search needs
 
--- src/lib.rt:45:17
 source-of-requires : tie.Need-source-of-requires
 source-of-requires c κs = (omega (arith, low _ _ _ _ (c .before .before .before .before .before .before .pre), c .before .before .before .dim .ensures), omega arith)
 
--- src/lib.rt:47:17
 build-requires : tie.Need-build-requires
 build-requires c κs = for-sets _ _ _ _ (c .before .before .before .before .before .before .before .before .before .pre) (c .before .before .before .before .before .if1 .taken) (c .before .before .before .before .if2 .taken) _ (c .before .before .before .before .before .before .dim .ensures) _ (c .before .before .source-of .ensures)
 
--- src/lib.rt:58:13
 same-length : tie.Need-same-length
 same-length c = search needs
 
--- src/lib.rt:58:13
 returns : tie.Need-returns
 returns c = sets _ _ _ _ (c .before .before .before .before .before .before .before .before .before .before .before .before .before .pre) (c .before .before .before .before .before .before .before .before .before .if1 .taken) _ _ _ (c .before .before .before .build .ensures .0) (c .before .before .before .build .ensures .1)
 
--- src/lib.rt:63:13
 source-of-requires-2 : tie.Need-source-of-requires-2
 source-of-requires-2 c κs = (omega arith, omega (arith, low _ _ _ _ (c .before .before .before .before .before .before .pre), c .before .before .before .dim .ensures))
 
--- src/lib.rt:64:13
 source-of-requires-3 : tie.Need-source-of-requires-3
 source-of-requires-3 c κs = (omega (arith, low _ _ _ _ (c .before .before .before .before .before .before .before .before .pre), c .before .before .before .before .before .dim .ensures), omega arith)
 
--- src/lib.rt:66:18
 vertex-neighbours-requires : tie.Need-vertex-neighbours-requires
 vertex-neighbours-requires c κs = for-points _ _ _ _ (c .before .before .before .before .before .before .before .before .before .before .pre) (c .before .before .before .before .before .before .if1 .taken) (c .before .before .before .before .before .if2 .left) _ (c .before .before .before .before .before .before .before .dim .ensures) _ _ (c .before .before .before .source-of2 .ensures) (c .before .source-of3 .ensures)
 
--- src/lib.rt:65:9
 same-length-2 : tie.Need-same-length-2
 same-length-2 c = search needs
 
--- src/lib.rt:65:9
 returns-2 : tie.Need-returns-2
 returns-2 c = points _ _ _ _ (c .before .before .before .before .before .before .before .before .before .before .before .before .before .pre) (c .before .before .before .before .before .before .before .before .before .if1 .taken) (c .before .before .before .before .before .before .before .before .if2 .left) _ _ _ (c .before .before .vertex-neighbours .ensures)
 
--- src/lib.rt:71:13
 source-of-requires-4 : tie.Need-source-of-requires-4
 source-of-requires-4 c κs = let l = low _ _ _ _ (c .before .before .before .before .before .before .pre) in (l .1 .0, l .0)
 
--- src/lib.rt:73:18
 transpose-requires : tie.Need-transpose-requires
 transpose-requires c κs = for-turned _ _ _ _ (c .before .before .before .before .before .before .before .before .pre) (c .before .before .before .if3 .taken) _ (c .before .source-of4 .ensures)
 
--- src/lib.rt:72:9
 same-length-3 : tie.Need-same-length-3
 same-length-3 c = search needs
 
--- src/lib.rt:72:9
 returns-3 : tie.Need-returns-3
 returns-3 c = other _ _ _ _ (c .before .before .before .before .before .before .before .before .before .before .before .pre) _ _ (c .before .before .before .before .source-of4 .ensures .to) (c .before .before .before .before .source-of4 .ensures .from) (λ a b. c .before .before .before .before .before .before .before .if1 .left a) _ _ _ (c .before .before .transpose .ensures)
 
--- src/lib.rt:77:9
 source-of-requires-5 : tie.Need-source-of-requires-5
 source-of-requires-5 c κs = (low _ _ _ _ (c .before .before .before .before .before .before .pre) .0, omega arith)
 
--- src/lib.rt:78:9
 source-of-requires-6 : tie.Need-source-of-requires-6
 source-of-requires-6 c κs = (omega arith, low _ _ _ _ (c .before .before .before .before .before .before .before .before .pre) .1 .0)
 
--- src/lib.rt:80:13
 source-of-requires-7 : tie.Need-source-of-requires-7
 source-of-requires-7 c κs = (low _ _ _ _ (c .before .before .before .before .before .before .before .before .before .before .before .pre) .1 .0, omega arith)
 
--- src/lib.rt:82:18
 insides-requires : tie.Need-insides-requires
 insides-requires c κs = for-insides _ _ _ _ (c .before .before .before .before .before .before .before .before .before .before .before .before .before .pre) (c .before .before .before .before .before .before .before .before .before .if1 .left) (c .before .before .before .if4 .taken) _ _ _ (c .before .before .before .before .before .before .source-of5 .ensures) (c .before .before .before .before .source-of6 .ensures) (c .before .source-of7 .ensures)
 
--- src/lib.rt:81:9
 same-length-4 : tie.Need-same-length-4
 same-length-4 c = search needs
 
--- src/lib.rt:81:9
 returns-4 : tie.Need-returns-4
 returns-4 c = other _ _ _ _ (c .before .before .before .before .before .before .before .before .before .before .before .before .before .before .before .before .pre) _ _ (c .before .before .before .before .before .before .before .before .before .source-of5 .ensures .from) (c .before .before .before .before .source-of7 .ensures .from) (λ a b. c .before .before .before .before .before .before .before .before .before .before .before .before .if1 .left a) _ _ _ (c .before .before .insides .ensures)
 
--- src/lib.rt:87:14
 neighbours-requires : tie.Need-neighbours-requires
 neighbours-requires c κs = for-neighbours _ _ _ _ (c .before .before .before .before .before .before .before .before .before .before .before .pre) (c .before .before .before .before .before .before .before .if1 .left) (c .before .before .before .before .before .before .if3 .left) (c .before .if4 .left) _ _ (c .before .before .before .before .source-of5 .ensures) (c .before .before .source-of6 .ensures)
 
--- src/lib.rt:38:1
 same-length-5 : tie.Need-same-length-5
 same-length-5 c = search needs
 
--- src/lib.rt:38:1
 returns-5 : tie.Need-returns-5
 returns-5 c = level _ _ _ _ (c .before .before .before .before .before .before .before .before .before .before .before .before .before .before .pre) (c .before .before .before .before .before .before .before .before .before .before .if1 .left) (c .before .before .before .before .before .before .before .before .before .if3 .left) (c .before .before .before .before .if4 .left) _ (c .before .before .before .before .before .before .before .source-of5 .ensures .from) _ _ _ (c .before .before .neighbours .ensures)
 

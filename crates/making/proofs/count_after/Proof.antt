@@ -6,28 +6,19 @@ use Rattle.making.proofs.Grown.{count-new, count-level, count-other, co
 use borrow.Author.Needs.{needs}
 use Rattle.making.proofs.count_after.Statement.{statement}
 use Rattle.making.proofs.count_after.Tie as tie
-use Rattle.making.proofs.count_after.Reads as reads
-use Rattle.making.proofs.count_after.Lts as lts
-use Rattle.book.proofs.dim.Reads as dim-reads
-use Rattle.book.proofs.word.Reads as word-reads
 
--- src/lib.rt:99:20
 dim-requires : tie.Need-dim-requires
 dim-requires c κs = search needs
 
--- src/lib.rt:100:17
 returns : tie.Need-returns
 returns c = count-new _ _ _ _ _ (c .before .before .before .if1 .taken) (c .before .before .if2 .taken) (omega (arith, c .before .dim .ensures))
 
--- src/lib.rt:104:28
 add-t11 : tie.Need-add-t11
 add-t11 c = search needs
 
--- src/lib.rt:104:5
 word-requires : tie.Need-word-requires
 word-requires c κs = search needs
 
--- src/lib.rt:93:1
 returns-2 : tie.Need-returns-2
 returns-2 c =
     c .word .ensures

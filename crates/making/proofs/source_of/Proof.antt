@@ -4,29 +4,19 @@ use Rattle.rules.specs.Book.{place}
 use borrow.Author.Needs.{needs}
 use Rattle.making.proofs.source_of.Statement.{statement}
 use Rattle.making.proofs.source_of.Tie as tie
-use Rattle.making.proofs.source_of.Reads as reads
-use Rattle.making.proofs.source_of.Lts as lts
-use Rattle.book.proofs.count.Reads as count-reads
-use Rattle.book.proofs.key.Reads as key-reads
-use Rattle.book.proofs.place_of.Reads as place-of-reads
 
--- src/lib.rt:31:34
 key-requires : tie.Need-key-requires
 key-requires c κs = search needs
 
--- src/lib.rt:31:13
 place-of-requires : tie.Need-place-of-requires
 place-of-requires c κs = search needs
 
--- src/lib.rt:32:15
 count-requires : tie.Need-count-requires
 count-requires c κs = search needs
 
--- src/lib.rt:33:16
 count-requires-2 : tie.Need-count-requires-2
 count-requires-2 c κs = search needs
 
--- src/lib.rt:24:1
 returns : tie.Need-returns
 returns c =
     record {
