@@ -33,6 +33,7 @@
 // | 17  | i is N_d or more                                            | row                     |
 // | 18  | the byte buffer is shorter than the file                    | write                   |
 mod answers;
+mod asks;
 mod loads;
 mod makes;
 mod numbers;
@@ -45,6 +46,7 @@ pub use answers::EulerNumber;
 pub use answers::Loaded;
 pub use answers::Made;
 pub use answers::Written;
+pub use asks::ask;
 pub use loads::load;
 pub use makes::make;
 pub use numbers::euler;

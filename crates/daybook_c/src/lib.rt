@@ -5,11 +5,13 @@ ghost use Prim.Native.Nat.{_+_, _<_};
 ghost use lib.ListN.{length};
 ghost use lib.Dec.{eqb};
 ghost use Rattle.rules.specs.Book.{key, rowStart, rowOf};
-ghost use Rattle.rules.specs.Calls.{faultCell, loadNumber, loadWords, rowNumber, writeNumber, writeLength, writeBytes, eulerNumber, eulerOf, heldNumber, heldCount};
+ghost use Rattle.rules.specs.Calls.{faultCell, loadNumber, loadWords, makeNumber, makeWords, askNumber, askWords, rowNumber, writeNumber, writeLength, writeBytes, eulerNumber, eulerOf, heldNumber, heldCount};
 use book::Place;
+use daybook::Asked;
 use daybook::Counted;
 use daybook::EulerNumber;
 use daybook::Loaded;
+use daybook::Made;
 use daybook::Written;
 
 // Loads a day file; with 7 and 8 the cell is written.
@@ -40,7 +42,39 @@ pub extern "C" fn daybook_load(file: &[u8], book: &mut [u32], cell: &mut u32) ->
     }
 }
 
-// The place where row i of the relation of key k begins, and how many words it has.
+// Makes d→e from what the book stores.
+#[no_mangle]
+pub extern "C" fn daybook_make(book: &mut [u32], d: u32, e: u32) -> u32
+    ensures number { λ r. ⌜ r ≡ makeNumber (now (book .entry)) d e ⌝ }
+    ensures words { λ r. ⌜ now (book .exit) ≡ makeWords (now (book .entry)) d e ⌝ }
+{
+    match daybook::make(book, d, e) {
+        Made::Accepted => 0,
+        Made::FrameBroken => 10,
+        Made::RowsBroken => 11,
+        Made::DimensionOver => 12,
+        Made::AlreadyHeld => 14,
+        Made::NeedMissing => 15,
+        Made::NoRoom => 13,
+    }
+}
+
+// Makes d→e and, as far as missing, everything it is made from, or nothing at all.
+#[no_mangle]
+pub extern "C" fn daybook_ask(book: &mut [u32], d: u32, e: u32) -> u32
+    ensures number { λ r. ⌜ r ≡ askNumber (now (book .entry)) d e ⌝ }
+    ensures words { λ r. ⌜ now (book .exit) ≡ askWords (now (book .entry)) d e ⌝ }
+{
+    match daybook::ask(book, d, e) {
+        Asked::Accepted => 0,
+        Asked::FrameBroken => 10,
+        Asked::RowsBroken => 11,
+        Asked::DimensionOver => 12,
+        Asked::NoRoom => 13,
+    }
+}
+
+// The place where row i of the relation of key k begins.
 fn place_of_row(book: &[u32], k: u32, i: u32) -> Place
     requires { ⌜ k < 16 ⌝ }
     ensures { λ r. ⌜ r .0 ≡ rowStart (now (book .entry)) k i ⌝ }
