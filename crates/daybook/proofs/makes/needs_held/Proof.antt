@@ -35,7 +35,6 @@ names c = listed _ _ _ (c .needs-of .ensures .0) (c .needs-of .ensures .1) ∙ a
 few : (c : tie.After-needs-of Inv-loop μ-loop) → c .needs-of .result .count ≤ 3
 few c = rw (c .needs-of .ensures .1) (needs-few (c .before .dim .result) (c .before .before .before .args .d) (c .before .before .before .args .e))
 
-
 -- src/makes.rt:15:32
 dim-requires : tie.Need-dim-requires Inv-loop μ-loop
 dim-requires c κs = tt
