@@ -12,7 +12,7 @@ use Rattle.rules.proofs.Joined.{map-last}
 use Rattle.rules.proofs.First.{keep-last}
 use Rattle.rules.proofs.Relation.{joined-append}
 use Rattle.rules.specs.Book.{dim, count, total}
-use Rattle.report.specs.Lines.{digits, spaced, line, meshLine, relationLine, refusedLine}
+use Rattle.report.specs.Lines.{digits, spaced, line, meshLine, relationLine, refusedLine, tooLong}
 use Rattle.report.specs.Printed.{Put}
 use Rattle.report.proofs.Putting.{put-none, put-wide, put-then}
 use Rattle.report.proofs.Decimal.{digits-one, digits-more, digits-ten}
@@ -112,3 +112,8 @@ unfolding refusedLine
 put-refused-line n p q s =
     let word : List ℕ = 114 ∷ 101 ∷ 102 ∷ 117 ∷ 115 ∷ 101 ∷ 100 ∷ [] in
     put-end word (digits n ∷ []) (put-next word [] (put-first p) (digits n) q) s
+
+-- "too long"
+pub put-too-long : {bs : List ℕ} {at r : ℕ} {cs : List ℕ} → Put 9 bs at (116 ∷ 111 ∷ 111 ∷ 32 ∷ 108 ∷ 111 ∷ 110 ∷ 103 ∷ 10 ∷ []) r cs → Put 9 bs at tooLong r cs
+unfolding tooLong line spaced
+put-too-long p = p

@@ -1,6 +1,5 @@
 -- One space, then the number.
 use Rattle.report.proofs.Putting.{put-then}
-use Prim.Native.Nat.{_-_}
 use borrow.Author.Needs.{needs}
 use Rattle.report.proofs.put_field.Statement.{statement}
 use Rattle.report.proofs.put_field.Tie as tie

@@ -2,7 +2,6 @@
 use Rattle.report.proofs.Texts.{put-if, put-not}
 use Rattle.report.specs.Lines.{relationLine}
 use mathlib.Core.Path.{sym, _∙_}
-use Prim.Native.Nat.{_-_}
 use borrow.Author.Needs.{needs}
 use Rattle.report.proofs.put_held.Statement.{statement}
 use Rattle.report.proofs.put_held.Tie as tie

@@ -1,6 +1,5 @@
 -- The line of a relation: its four fields, each put behind the last, and the newline.
 use Rattle.report.proofs.Texts.{put-relation-line}
-use Prim.Native.Nat.{_-_}
 use borrow.Author.Needs.{needs}
 use Rattle.report.proofs.put_relation.Statement.{statement}
 use Rattle.report.proofs.put_relation.Tie as tie

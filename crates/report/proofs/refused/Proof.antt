@@ -1,7 +1,6 @@
 -- "refused", the number and the newline.
 use Rattle.report.proofs.Putting.{printed}
 use Rattle.report.proofs.Texts.{put-refused-line}
-use Prim.Native.Nat.{_-_}
 use borrow.Author.Needs.{needs}
 use Rattle.report.proofs.refused.Statement.{statement}
 use Rattle.report.proofs.refused.Tie as tie

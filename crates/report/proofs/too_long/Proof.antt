@@ -1,7 +1,6 @@
 -- The text as it stands.
 use Rattle.report.proofs.Putting.{printed}
-use Rattle.report.specs.Lines.{tooLong, line, spaced}
-use Prim.Native.Nat.{_-_}
+use Rattle.report.proofs.Texts.{put-too-long}
 use borrow.Author.Needs.{needs}
 use Rattle.report.proofs.too_long.Statement.{statement}
 use Rattle.report.proofs.too_long.Tie as tie
@@ -16,7 +15,7 @@ same-length : tie.Need-same-length
 same-length c = search needs
 
 returns : tie.Need-returns
-returns c = printed (unfold tooLong line spaced in c .before .before .put-text .ensures)
+returns c = printed (put-too-long (c .before .before .put-text .ensures))
 
 pub too-long-spec : {M : Type 1} → statement M
 too-long-spec = tie.close (tie.spec slice-aggregate-put-text put-text-requires same-length returns)
