@@ -3,3 +3,4 @@ mod Putting
 mod Decimal
 mod Texts
 pub mod Determined
+pub mod Example
