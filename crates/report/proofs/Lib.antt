@@ -1,0 +1,6 @@
+-- Laws for the proofs of this crate.
+mod Putting
+mod Decimal
+mod Texts
+pub mod Determined
+pub mod Example
