@@ -26,6 +26,8 @@
  * applies, in the order given at the call. A refusal alters no word or byte that you lent.
  * What an out pointer points to is written only where the text says so, and else left alone.
  *
+ * STACK. daybook_make and daybook_ask need up to 512 KiB of stack, the other calls a few kilobytes.
+ *
  * OWNERSHIP. Nothing is allocated, nothing is global, nothing is kept after a call returns: the
  * book, the file and the buffers stay yours. Calls on different books may run side by side in
  * threads. In one call no two of the lent places may overlap, and no pointer may be null but for
@@ -69,6 +71,14 @@ enum {
 /* Loads a day file into the book: every word is set, and D -> 0 alone is held. The old book is
  * not looked at. Refusals: 1 to 9, then 13. With 7 and 8 the cell's number is written to *cell. */
 uint32_t daybook_load(const uint8_t *file, size_t file_len, uint32_t *book, size_t book_len, uint32_t *cell);
+
+/* Makes the relation d -> e from what the book stores and puts it at its place; everything that it is
+ * made from has to be held. Refusals: 10, 11, 12, 14, 15, 13. */
+uint32_t daybook_make(uint32_t *book, size_t book_len, uint32_t d, uint32_t e);
+
+/* Makes the relation d -> e and, as far as missing, everything that it is made from, or nothing at
+ * all. A relation that is held already is accepted, and no word changes. Refusals: 10, 11, 12, 13. */
+uint32_t daybook_ask(uint32_t *book, size_t book_len, uint32_t d, uint32_t e);
 
 /* Finds row i of d -> e: where accepted it is book[*start .. *start + *count], which may be empty.
  * Refusals: 10, 12, 16, 17, and 11 where the row's own two offsets are not first <= second <= last.
