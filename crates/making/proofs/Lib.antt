@@ -3,3 +3,4 @@ pub mod Grown
 mod Dispatch
 mod Walk
 mod Reached
+pub mod Answers
