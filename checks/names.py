@@ -1,4 +1,4 @@
-"""Every name that a page gives with a file, as `name` in `path`, stands in that file; and every file named on it exists.
+"""Every name that a page gives with a file, as `name` in `path`, stands in that file; every file named on it exists, and every edit.
 
     python3 checks/names.py PAGE...
 """
@@ -20,8 +20,12 @@ for page in sys.argv[1:]:
                 print("%s: %s is not in %s" % (page, name, path))
                 failed += 1
     for path in re.findall(r"`((?:crates|compare|docs|include|examples|bench|checks)/[^` ]*)`", text):
-        if not os.path.exists(path.rstrip("/")):
+        if "NAME" not in path and not os.path.exists(path.rstrip("/")):
             print("%s: there is no %s" % (page, path))
+            failed += 1
+    for crate, label in re.findall(r"`(\w+)/(\w+)`", text):
+        if os.path.isdir("crates/" + crate) and not any(os.path.exists("crates/%s/%s/%s.edit" % (crate, folder, label)) for folder in ("must-fail", "more-edits")):
+            print("%s: there is no edit %s/%s" % (page, crate, label))
             failed += 1
     print("%s: %d names looked up" % (page, sum(len(re.findall("`[^`]+`", n)) for n, _ in named)))
 sys.exit(1 if failed else 0)

@@ -150,6 +150,20 @@ def damaged_book(rng, book):
     return book
 
 
+def worn_book(rng, book):
+    """A word changed that no frame rule looks at: an offset but the last, an index or a free word."""
+    book = list(book)
+    frame = rules.Frame.of(book)
+    if frame is None:
+        return book
+    lasts = {frame.places[r] + frame.counts[r[0]] for r in frame.held}
+    places = [at for at in range(5, len(book)) if at not in lasts]
+    if places:
+        at = rng.choice(places)
+        book[at] = rng.choice((book[at] + 1, max(0, book[at] - 1), rng.randrange(9), 0xFFFFFFFF)) & 0xFFFFFFFF
+    return book
+
+
 def tiny_book(rng):
     """0 to 6 words of any value."""
     return [rng.choice((0, 1, 5, 6, 16, 256, 4096, 0x40000000, 0x80040010, 0xFFFFFFFF, rng.randrange(1 << 32))) for _ in range(rng.randrange(7))]

@@ -140,8 +140,13 @@ class Runs:
         rng = self.rng
         way = rng.randrange(8)
         if way < 4:
-            d, e = self.dimension(), self.dimension()
-            self.row(d, e, rng.choice((rng.randrange(4), rng.randrange(20), 8191, 0xFFFFFFFF)))
+            d, e, i = self.dimension(), self.dimension(), rng.choice((rng.randrange(4), rng.randrange(20), 8191, 0xFFFFFFFF))
+            frame = rules.Frame.of(self.book)
+            if frame and rng.random() < 0.7:
+                d, e = rng.choice(sorted(frame.held))
+                if frame.counts[d] and rng.random() < 0.8:
+                    i = rng.randrange(frame.counts[d])
+            self.row(d, e, i)
         elif way < 6:
             self.write(rng.choice((0, 3, 4, rng.randrange(64), 200)))
         elif way == 6:
@@ -181,7 +186,9 @@ class Runs:
             self.use(meshes.tiny_book(rng))
         elif way < 0.6:
             self.use(meshes.lying_book(rng, rng.choice((3, 30, 300))))
-        if rng.random() < 0.6:
+        if rng.random() < 0.3:
+            self.use(meshes.worn_book(rng, self.book))
+        elif rng.random() < 0.6:
             self.use(meshes.damaged_book(rng, self.book))
         for _ in range(rng.randrange(1, 6)):
             self.step(0.5)

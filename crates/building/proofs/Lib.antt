@@ -7,3 +7,4 @@ mod Lexicographic
 mod Meeting
 mod Rows
 mod Standing
+mod Determined

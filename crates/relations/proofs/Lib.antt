@@ -1,5 +1,5 @@
 -- Laws for the proofs of this crate.
-mod Ranges
+pub mod Ranges
 pub mod Placed
 mod Parts
 mod Merging

@@ -28,7 +28,7 @@ is-entity-requires c κs =
     (omega (arith, k .0 .most, c .before .loop .inv .high), (k .0 .sets-long, k .1 .0))
 
 returns : tie.Need-returns Inv-loop μ-loop
-returns c = walk-found (c .before .before .before .loop .inv) (c .before .before .loop-test .taken) (sym (c .before .is-entity .ensures) ∙ c .if1 .taken)
+returns c = walk-found (c .before .before .before .loop .inv) (omega (arith, c .before .before .loop-test .taken)) (sym (c .before .is-entity .ensures) ∙ c .if1 .taken)
 
 mul-p : tie.Need-mul-p Inv-loop μ-loop
 mul-p c =
@@ -50,7 +50,7 @@ loop-less c =
 loop-again : tie.Need-loop-again Inv-loop μ-loop
 loop-again c =
     let l = c .before .before .before in
-    walk-on (l .before .loop .inv) (l .loop-test .taken) (l .before .before .pre .0) (sym (c .before .before .is-entity .ensures) ∙ c .before .if1 .left)
+    walk-on (l .before .loop .inv) (omega (arith, l .loop-test .taken)) (l .before .before .pre .0) (sym (c .before .before .is-entity .ensures) ∙ c .before .if1 .left)
 
 returns-2 : tie.Need-returns-2 Inv-loop μ-loop
 returns-2 c = walk-end (c .before .loop .inv) (c .loop-test .left)

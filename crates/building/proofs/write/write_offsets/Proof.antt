@@ -42,7 +42,7 @@ loop-less c = omega arith
 loop-again : tie.Need-loop-again Inv-loop μ-loop
 loop-again c =
     let l = c .before .before .before .before in
-    stepping-more (l .before .loop .inv) (l .loop-test .taken) _ (c .before .before .put .ensures)
+    stepping-more (l .before .loop .inv) (omega (arith, l .loop-test .taken)) _ (c .before .before .put .ensures)
 
 same-length : tie.Need-same-length Inv-loop μ-loop
 same-length c = c .before .loop .inv .long

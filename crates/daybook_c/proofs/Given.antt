@@ -1,0 +1,38 @@
+-- What comes with a number: the cell with 7 and 8, and small dimensions with an accepted row.
+use mathlib.Core.Path.{_≡_, refl, sym, ap, _∙_}
+use mathlib.Core.Bool.{Bool, true, false, cond, not}
+use mathlib.Core.List.{List}
+use Prim.Native.Nat.{ℕ, _≤_, _<_}
+use native.Mathlib.Omega.{arith}
+use lib.Dec.{eqb}
+use Rattle.rules.specs.Calls.{faultCell, loadNumber, loadCell, rowRules, rowNumber, firstBroken}
+use Rattle.rules.specs.Book.{dim, key, frameRight}
+use Rattle.rules.proofs.FrameRule.{framed}
+use Rattle.rules.proofs.Accepted.{rowed}
+
+pub cell-out : (f ws : List ℕ) → loadNumber f ws ≡ 7 → loadCell f ws ≡ faultCell f
+unfolding loadCell
+cell-out f ws e = rw e
+
+pub cell-twice : (f ws : List ℕ) → loadNumber f ws ≡ 8 → loadCell f ws ≡ faultCell f
+unfolding loadCell
+cell-twice f ws e = rw e
+
+-- an accepted row has a right frame
+frame-of : (ws : List ℕ) (d e i : ℕ) → rowNumber ws d e i ≡ 0 → frameRight ws ≡ true
+unfolding rowNumber rowRules firstBroken
+frame-of ws d e i z = go (frameRight ws) refl _ z
+  where
+    go : (b : Bool) → frameRight ws ≡ b → (rest : ℕ) → _≡_ {A = ℕ} (cond (not b) 10 rest) 0 → frameRight ws ≡ true
+    go true q rest z = q
+    go false q rest z = absurd (omega arith)
+
+pub accepted-low : (ws : List ℕ) (d e i : ℕ) → rowNumber ws d e i ≡ 0 → (d ≤ 3) × (e ≤ 3)
+accepted-low ws d e i z =
+    let a = rowed ws d e i z in
+    let f = framed ws (frame-of ws d e i z) in
+    (omega (arith, a .first, f .high), omega (arith, a .second, f .high))
+
+pub key-low : (d e : ℕ) → d ≤ 3 → e ≤ 3 → key d e < 16
+unfolding key
+key-low d e a b = omega arith
