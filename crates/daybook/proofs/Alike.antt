@@ -1,12 +1,12 @@
 -- An answer is what its number and its value say: two answers that a contract allows are equal.
-use mathlib.Core.Path.{_≡_, refl, sym, ap₂, _∙_}
+use mathlib.Core.Path.{ap, _≡_, refl, sym, ap₂, _∙_}
 use mathlib.Core.Bool.{cond}
 use mathlib.Core.List.{List}
 use Prim.Native.Nat.{ℕ, zero, suc, _<_}
 use native.Mathlib.Omega.{arith}
 use lib.Dec.{eqb}
 use lib.IntN.{ℤ, pos}
-use Rattle.rules.specs.Calls.{loadNumber, loadCell, writeNumber, writeLength, eulerNumber, eulerOf, heldNumber, heldCount}
+use Rattle.rules.specs.Calls.{loadNumber, loadCell, writeNumber, writeLength, eulerNumber, eulerOf, heldNumber, heldCount, makeNumber, askNumber}
 use Rattle.daybook.specs.declared.answers.Loaded.{Loaded}
 use Rattle.daybook.specs.declared.answers.Loaded.the-variants.{Accepted, FileTooShort, NoDimension, ManyVertices, ManyCells, SpareBits, FileLength, VertexOut, VertexTwice, BitsAfter, NoRoom}
 use Rattle.daybook.specs.declared.answers.Written.{Written}
@@ -15,10 +15,14 @@ use Rattle.daybook.specs.declared.answers.Written.the-variants as writes
 use Rattle.daybook.specs.declared.answers.EulerNumber.{EulerNumber}
 use Rattle.daybook.specs.declared.answers.EulerNumber.the-variants.{Number}
 use Rattle.daybook.specs.declared.answers.EulerNumber.the-variants as eulers
+use Rattle.daybook.specs.declared.answers.Made.{Made}
+use Rattle.daybook.specs.declared.answers.Made.the-variants as makes
+use Rattle.daybook.specs.declared.answers.Asked.{Asked}
+use Rattle.daybook.specs.declared.answers.Asked.the-variants as asks
 use Rattle.daybook.specs.declared.answers.Counted.{Counted}
 use Rattle.daybook.specs.declared.answers.Counted.the-variants.{Relations}
 use Rattle.daybook.specs.declared.answers.Counted.the-variants as counts
-use Rattle.daybook.specs.Answers.{loadedNumber, loadedCell, writtenNumber, writtenLength, eulerAnswer, eulerValue, countedNumber, countedRelations}
+use Rattle.daybook.specs.Answers.{loadedNumber, loadedCell, writtenNumber, writtenLength, eulerAnswer, eulerValue, countedNumber, countedRelations, madeNumber, askedNumber}
 
 -- ==== Load
 -- the answer of a number and a cell
@@ -141,3 +145,38 @@ held-determined ws a b n v m w = counted-alike a b (n ∙ sym m) (go (heldNumber
     go : (k : ℕ) → countedNumber a ≡ k → countedNumber b ≡ k → countedRelations a ≡ countedRelations b
     go zero p q = v p ∙ sym (w q)
     go (suc k) p q = counted-bare a (omega arith) ∙ sym (counted-bare b (omega arith))
+
+-- ==== Make
+madeOf : ℕ → Made
+madeOf n =
+    cond (eqb n 0) makes.Accepted
+    (cond (eqb n 10) makes.FrameBroken
+    (cond (eqb n 11) makes.RowsBroken (cond (eqb n 12) makes.DimensionOver (cond (eqb n 13) makes.NoRoom (cond (eqb n 14) makes.AlreadyHeld makes.NeedMissing)))))
+
+made-back : (a : Made) → madeOf (madeNumber a) ≡ a
+unfolding madeOf madeNumber
+made-back makes.Accepted = refl
+made-back makes.FrameBroken = refl
+made-back makes.RowsBroken = refl
+made-back makes.DimensionOver = refl
+made-back makes.NoRoom = refl
+made-back makes.AlreadyHeld = refl
+made-back makes.NeedMissing = refl
+
+pub make-determined : (ws : List ℕ) (d e : ℕ) (a b : Made) → madeNumber a ≡ makeNumber ws d e → madeNumber b ≡ makeNumber ws d e → a ≡ b
+make-determined ws d e a b n m = sym (made-back a) ∙ ap madeOf (n ∙ sym m) ∙ made-back b
+
+-- ==== Ask
+askedOf : ℕ → Asked
+askedOf n = cond (eqb n 0) asks.Accepted (cond (eqb n 10) asks.FrameBroken (cond (eqb n 11) asks.RowsBroken (cond (eqb n 12) asks.DimensionOver asks.NoRoom)))
+
+asked-back : (a : Asked) → askedOf (askedNumber a) ≡ a
+unfolding askedOf askedNumber
+asked-back asks.Accepted = refl
+asked-back asks.FrameBroken = refl
+asked-back asks.RowsBroken = refl
+asked-back asks.DimensionOver = refl
+asked-back asks.NoRoom = refl
+
+pub ask-determined : (ws : List ℕ) (d e : ℕ) (a b : Asked) → askedNumber a ≡ askNumber ws d e → askedNumber b ≡ askNumber ws d e → a ≡ b
+ask-determined ws d e a b n m = sym (asked-back a) ∙ ap askedOf (n ∙ sym m) ∙ asked-back b
