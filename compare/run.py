@@ -197,7 +197,7 @@ class Runs:
         """Meshes of the full size: whole, and one vertex, one cell or one word too many."""
         rng = self.rng
         whole = meshes.random_mesh(rng, 3, 8192, 4096)
-        for mesh in (whole, meshes.sheet(45, 45), meshes.box(8, 8, 10), meshes.fan(4098), meshes.random_mesh(rng, 1, 8192, 4096)):
+        for mesh in (whole, meshes.sheet(46, 46), meshes.box(8, 8, 10), meshes.fan(4098), meshes.random_mesh(rng, 1, 8192, 4096)):
             data = rules.file_bytes(*mesh)
             need = 6 + len(mesh[2]) * (mesh[0] + 2)
             for room in (need - 1, need, 400000):
@@ -207,7 +207,7 @@ class Runs:
                 self.write(size)
             for d in range(mesh[0] + 1):
                 for e in range(mesh[0] + 1):
-                    if self.makes and not (d == e and mesh[0] == 2 and len(mesh[2]) == 4096):
+                    if self.makes and not (d == e > 0 and mesh[2][-1][0] == 0):
                         self.relation("ask", d, e)
                     self.row(d, e, 0)
                     self.row(d, e, mesh[1] - 1)
