@@ -74,7 +74,7 @@ def checksum(words):
 class Runs:
     def __init__(self, seed, library, calls, makes):
         self.rng, self.library, self.left, self.makes = random.Random(seed), library, calls, makes
-        self.table, self.book, self.past, self.made = {}, [], [], 0
+        self.table, self.book, self.past, self.made, self.sequences = {}, [], [], 0, 0
 
     def fail(self, what, got, wanted):
         print("DISAGREE: %s: the library says %s, the reference %s" % (what, got, wanted))
@@ -200,7 +200,7 @@ class Runs:
         for mesh in (whole, meshes.sheet(46, 46), meshes.box(8, 8, 10), meshes.fan(4098), meshes.random_mesh(rng, 1, 8192, 4096)):
             data = rules.file_bytes(*mesh)
             need = 6 + len(mesh[2]) * (mesh[0] + 2)
-            for room in (need - 1, need, 400000):
+            for room in (need - 1, need, 1500000):
                 self.use([0xFFFFFFFF] * room)
                 self.load(data)
             for size in (len(data) - 1, len(data), len(data) + 3):
@@ -219,10 +219,46 @@ class Runs:
             more[at] |= 0x3F if at == 0 else 0xFF
             self.load(bytes(more))
 
+    def demand(self, what, got, wanted):
+        if got != wanted:
+            raise SystemExit("example: %s: %s, and the paper says %s" % (what, got, wanted))
+
+    def rows_of(self, d, e):
+        """The rows of a relation in the book as the calls left it."""
+        out = []
+        while True:
+            number, start, count = rules.row(self.book, d, e, len(out))
+            if number:
+                return out
+            self.row(d, e, len(out))
+            out.append(self.book[start : start + count])
+
+    def examples(self):
+        """Examples 10 and 11 of the paper, whose numbers stand here as the paper gives them."""
+        t = rules.file_bytes(2, 4, [[0, 1, 2], [1, 2, 3]])
+        for room, number in ((54, 0), (53, 13)):
+            self.use([7] * room)
+            self.demand("T is loaded", self.load(t), 0)
+            self.demand("2→1 in %d words" % room, self.relation("ask", 2, 1), number)
+        for room, number in ((119, 0), (118, 13)):
+            self.use([7] * room)
+            self.load(t)
+            self.demand("all nine in %d words" % room, max(self.relation("ask", d, e) for d in range(3) for e in range(3)), number)
+        self.use([7] * 300)
+        self.load(rules.file_bytes(3, 4, [[3, 1, 0, 2]]))
+        self.demand("faces and edges", [self.relation("ask", d, 0) for d in (2, 1)], [0, 0])
+        self.demand("faces", self.rows_of(2, 0), [[0, 1, 2], [0, 1, 3], [0, 2, 3], [1, 2, 3]])
+        self.demand("edges", self.rows_of(1, 0), [[0, 1], [0, 2], [0, 3], [1, 2], [1, 3], [2, 3]])
+        self.euler()
+        self.demand("Euler number", rules.euler(self.book), (0, 1))
+
     def run(self, full):
+        if self.makes:
+            self.examples()
         if full:
             self.full_size()
         while self.left > 0:
+            self.sequences += 1
             if self.rng.random() < 0.6:
                 self.true_run()
             else:
@@ -240,7 +276,7 @@ def main():
     runs.run(given.full)
     for name, row in runs.table.items():
         print("%-10s %s" % (name, "  ".join("%d: %d" % (n, row[n]) for n in sorted(row))))
-    print("compare: %d calls agree, seed %d" % (runs.made, given.seed))
+    print("compare: %d calls in %d sequences agree, seed %d" % (runs.made, runs.sequences, given.seed))
 
 
 if __name__ == "__main__":
