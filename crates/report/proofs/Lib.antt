@@ -2,5 +2,7 @@
 mod Putting
 mod Decimal
 mod Texts
+mod Asking
+mod Refusing
 pub mod Determined
 pub mod Example
