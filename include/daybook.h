@@ -19,14 +19,17 @@
  * All words from the used length on are 0.
  *
  * HOW MANY WORDS. A loaded mesh takes 6 + N_D + N_D (D + 1) words. Each relation more takes
- * N_d + 1 words and one for each index. A call that does not fit is refused with
- * DAYBOOK_NO_ROOM and alters nothing, so a larger book can be lent and filled by daybook_load again.
+ * N_d + 1 words and one for each index. DAYBOOK_WORDS_SHEET(D, N_0, N_D) words are enough for all
+ * relations of a sheet-like mesh, DAYBOOK_WORDS_ANY(D, N_0, N_D) for those of any mesh. A call that
+ * does not fit is refused with DAYBOOK_NO_ROOM and alters nothing, so a larger book can be lent and
+ * filled by daybook_load again.
  *
  * THE RESULT of each call is 0 where it was accepted, else the number of the first refusal that
  * applies, in the order given at the call. A refusal alters no word or byte that you lent.
  * What an out pointer points to is written only where the text says so, and else left alone.
  *
- * STACK. daybook_make and daybook_ask need up to 512 KiB of stack, the other calls a few kilobytes.
+ * STACK. daybook_make and daybook_ask need up to 512 KiB of stack (417 KiB were measured, by painting
+ * it), the other calls less than 16 KiB.
  *
  * OWNERSHIP. Nothing is allocated, nothing is global, nothing is kept after a call returns: the
  * book, the file and the buffers stay yours. Calls on different books may run side by side in
@@ -67,6 +70,31 @@ enum {
     DAYBOOK_NO_SUCH_ENTITY = 17,   /* i is N_d or more */
     DAYBOOK_BUFFER_TOO_SHORT = 18  /* the byte buffer is shorter than the file */
 };
+
+/* A number of 32-bit words, as a uint64_t, that is enough for a mesh of dimension D (1, 2 or 3) with
+ * N0 vertices and ND cells and for all its relations.
+ *
+ * SHEET: where no vertex lies in more than 12 intervals or triangles or 36 tetrahedra, and the cells
+ * at a vertex hang together over shared edges (D = 2) or faces (D = 3). ANY: for every mesh; there
+ * the cells at a vertex are not bounded, and the words grow with the square of the cells.
+ *
+ * Both count N_1 and N_2 as if no two cells shared an edge or a face. The arguments are evaluated
+ * more than once; with constants the result is a constant, as an array's length needs. */
+#define DAYBOOK_WORDS_SHEET(D, N0, ND) \
+    (DAYBOOK_WORDS_APART_(D, N0, ND) + \
+     DAYBOOK_N1_(D, ND) * 2 * ((D) == 3 ? 37 : 12) + DAYBOOK_N2_(D, ND) * 3 * ((D) == 3 ? 72 : 11) + DAYBOOK_N3_(D, ND) * 4 * 35)
+#define DAYBOOK_WORDS_ANY(D, N0, ND) \
+    (DAYBOOK_WORDS_APART_(D, N0, ND) + \
+     DAYBOOK_N1_(D, ND) * DAYBOOK_N1_(D, ND) + DAYBOOK_N2_(D, ND) * DAYBOOK_N2_(D, ND) + DAYBOOK_N3_(D, ND) * DAYBOOK_N3_(D, ND))
+
+/* Parts of these: bounds of N_1, N_2 and N_3, and the words of all but 1 -> 1, 2 -> 2 and 3 -> 3: the head, all
+ * offsets, d -> e and e -> d for d > e, and 0 -> 0. */
+#define DAYBOOK_N1_(D, ND) ((uint64_t)(ND) * ((D) == 1 ? 1 : (D) == 2 ? 3 : 6))
+#define DAYBOOK_N2_(D, ND) ((uint64_t)(ND) * ((D) == 1 ? 0 : (D) == 2 ? 1 : 4))
+#define DAYBOOK_N3_(D, ND) ((uint64_t)(ND) * ((D) == 3 ? 1 : 0))
+#define DAYBOOK_WORDS_APART_(D, N0, ND) \
+    (5 + ((uint64_t)(D) + 1) * ((uint64_t)(N0) + DAYBOOK_N1_(D, ND) + DAYBOOK_N2_(D, ND) + DAYBOOK_N3_(D, ND) + (D) + 1) + \
+     2 * (2 * DAYBOOK_N1_(D, ND) + 6 * DAYBOOK_N2_(D, ND) + 14 * DAYBOOK_N3_(D, ND)) + (uint64_t)(ND) * (D) * ((D) + 1))
 
 /* Loads a day file into the book: every word is set, and D -> 0 alone is held. The old book is
  * not looked at. Refusals: 1 to 9, then 13. With 7 and 8 the cell's number is written to *cell. */

@@ -1,0 +1,216 @@
+//! Safe calls of daybook: a day's mesh of triangles or tetrahedra in a book of lent words, and who touches whom in it.
+//!
+//! A book is a slice of `u32` that you lend to each call; `include/daybook.h` says what stands in it. Nothing is
+//! allocated and nothing is kept. A refusal alters no word and no byte. `make` and `ask` need up to 512 KiB of stack.
+//!
+//! ```no_run
+//! # let file: Vec<u8> = Vec::new();
+//! let mut book = vec![0; daybook::words_for_sheet(2, 1900, 3700) as usize];
+//! daybook::load(&file, &mut book)?;
+//! daybook::ask(&mut book, 2, 1)?;
+//! let edges: &[u32] = daybook::row(&book, 2, 1, 0)?;
+//! # Ok::<(), daybook::Refusal>(())
+//! ```
+
+use std::fmt;
+
+mod c {
+    extern "C" {
+        pub fn daybook_load(file: *const u8, file_len: usize, book: *mut u32, book_len: usize, cell: *mut u32) -> u32;
+        pub fn daybook_make(book: *mut u32, book_len: usize, d: u32, e: u32) -> u32;
+        pub fn daybook_ask(book: *mut u32, book_len: usize, d: u32, e: u32) -> u32;
+        pub fn daybook_row(book: *const u32, book_len: usize, d: u32, e: u32, i: u32, start: *mut usize, count: *mut usize) -> u32;
+        pub fn daybook_write(book: *const u32, book_len: usize, bytes: *mut u8, bytes_len: usize, length: *mut usize) -> u32;
+        pub fn daybook_euler(book: *const u32, book_len: usize, number: *mut i64) -> u32;
+        pub fn daybook_held_count(book: *const u32, book_len: usize, count: *mut u32) -> u32;
+    }
+}
+
+/// Why a call was refused; `number` gives the paper's number.
+#[derive(Clone, Copy, Debug, PartialEq, Eq, Hash)]
+pub enum Refusal {
+    /// 1: the file has fewer than 4 bytes.
+    FileTooShort,
+    /// 2: D is 0.
+    NoDimension,
+    /// 3: N_0 is over 8,192.
+    ManyVertices,
+    /// 4: N_D is over 4,096.
+    ManyCells,
+    /// 5: a spare bit of the file's head is set.
+    SpareBits,
+    /// 6: the file's length is not the one that its head gives.
+    FileLength,
+    /// 7: a cell names a vertex that is N_0 or more; the lowest such cell.
+    VertexOut(u32),
+    /// 8: a cell names a vertex twice; the lowest such cell.
+    VertexTwice(u32),
+    /// 9: a bit after the last vertex is set.
+    BitsAfter,
+    /// 10: the book's head words or the sizes of its relations break the frame rule.
+    FrameBroken,
+    /// 11: the book's offsets, indices or free words break the row rule.
+    RowsBroken,
+    /// 12: d or e is over D.
+    DimensionOver,
+    /// 13: the used length afterwards would pass the book's length.
+    NoRoom,
+    /// 14: the relation is held already.
+    AlreadyHeld,
+    /// 15: something that is needed is not held.
+    NeedMissing,
+    /// 16: the relation is not held.
+    NotHeld,
+    /// 17: i is N_d or more.
+    NoSuchEntity,
+    /// 18: the byte buffer is shorter than the file.
+    BufferTooShort,
+}
+
+impl Refusal {
+    /// The paper's number of this refusal, 1 to 18.
+    pub fn number(self) -> u32 {
+        match self {
+            Refusal::FileTooShort => 1,
+            Refusal::NoDimension => 2,
+            Refusal::ManyVertices => 3,
+            Refusal::ManyCells => 4,
+            Refusal::SpareBits => 5,
+            Refusal::FileLength => 6,
+            Refusal::VertexOut(_) => 7,
+            Refusal::VertexTwice(_) => 8,
+            Refusal::BitsAfter => 9,
+            Refusal::FrameBroken => 10,
+            Refusal::RowsBroken => 11,
+            Refusal::DimensionOver => 12,
+            Refusal::NoRoom => 13,
+            Refusal::AlreadyHeld => 14,
+            Refusal::NeedMissing => 15,
+            Refusal::NotHeld => 16,
+            Refusal::NoSuchEntity => 17,
+            Refusal::BufferTooShort => 18,
+        }
+    }
+}
+
+impl fmt::Display for Refusal {
+    fn fmt(&self, out: &mut fmt::Formatter<'_>) -> fmt::Result {
+        match self {
+            Refusal::VertexOut(cell) | Refusal::VertexTwice(cell) => write!(out, "refused {}, cell {}", self.number(), cell),
+            _ => write!(out, "refused {}", self.number()),
+        }
+    }
+}
+
+impl std::error::Error for Refusal {}
+
+/// What a call's number means: accepted with `value`, or a refusal, with 7 and 8 of `cell`.
+fn answer<T>(number: u32, cell: u32, value: T) -> Result<T, Refusal> {
+    Err(match number {
+        0 => return Ok(value),
+        1 => Refusal::FileTooShort,
+        2 => Refusal::NoDimension,
+        3 => Refusal::ManyVertices,
+        4 => Refusal::ManyCells,
+        5 => Refusal::SpareBits,
+        6 => Refusal::FileLength,
+        7 => Refusal::VertexOut(cell),
+        8 => Refusal::VertexTwice(cell),
+        9 => Refusal::BitsAfter,
+        10 => Refusal::FrameBroken,
+        11 => Refusal::RowsBroken,
+        12 => Refusal::DimensionOver,
+        13 => Refusal::NoRoom,
+        14 => Refusal::AlreadyHeld,
+        15 => Refusal::NeedMissing,
+        16 => Refusal::NotHeld,
+        17 => Refusal::NoSuchEntity,
+        18 => Refusal::BufferTooShort,
+        _ => unreachable!("the library gives 0 to 18"),
+    })
+}
+
+/// Loads a day file: every word of the book is set, and D→0 alone is held.
+pub fn load(file: &[u8], book: &mut [u32]) -> Result<(), Refusal> {
+    let mut cell = 0;
+    // SAFETY: each pointer and length is a slice's or a local's, and a lent book overlaps nothing else.
+    let number = unsafe { c::daybook_load(file.as_ptr(), file.len(), book.as_mut_ptr(), book.len(), &mut cell) };
+    answer(number, cell, ())
+}
+
+/// Makes d→e from what the book stores; everything that it is made from has to be held.
+pub fn make(book: &mut [u32], d: u32, e: u32) -> Result<(), Refusal> {
+    // SAFETY: as in `load`.
+    let number = unsafe { c::daybook_make(book.as_mut_ptr(), book.len(), d, e) };
+    answer(number, 0, ())
+}
+
+/// Makes d→e and, as far as missing, everything that it is made from, or nothing at all.
+pub fn ask(book: &mut [u32], d: u32, e: u32) -> Result<(), Refusal> {
+    // SAFETY: as in `load`.
+    let number = unsafe { c::daybook_ask(book.as_mut_ptr(), book.len(), d, e) };
+    answer(number, 0, ())
+}
+
+/// Row i of d→e: the part of the book itself, ascending.
+pub fn row(book: &[u32], d: u32, e: u32, i: u32) -> Result<&[u32], Refusal> {
+    let (mut start, mut count) = (0, 0);
+    // SAFETY: as in `load`.
+    let number = unsafe { c::daybook_row(book.as_ptr(), book.len(), d, e, i, &mut start, &mut count) };
+    answer(number, 0, ())?;
+    Ok(&book[start..start + count])
+}
+
+/// Writes the day file of the book's mesh and gives its length; later bytes stay as they were.
+pub fn write(book: &[u32], bytes: &mut [u8]) -> Result<usize, Refusal> {
+    let mut length = 0;
+    // SAFETY: as in `load`.
+    let number = unsafe { c::daybook_write(book.as_ptr(), book.len(), bytes.as_mut_ptr(), bytes.len(), &mut length) };
+    answer(number, 0, length)
+}
+
+/// The Euler number; d→0 has to be held for every 0 < d < D.
+pub fn euler(book: &[u32]) -> Result<i64, Refusal> {
+    let mut value = 0;
+    // SAFETY: as in `load`.
+    let number = unsafe { c::daybook_euler(book.as_ptr(), book.len(), &mut value) };
+    answer(number, 0, value)
+}
+
+/// How many relations are held.
+pub fn held_count(book: &[u32]) -> Result<u32, Refusal> {
+    let mut count = 0;
+    // SAFETY: as in `load`.
+    let number = unsafe { c::daybook_held_count(book.as_ptr(), book.len(), &mut count) };
+    answer(number, 0, count)
+}
+
+/// At most so many entities of dimension 1, 2 and 3, as if no two cells shared one.
+const fn entities(dim: u32, cells: u32) -> [u64; 3] {
+    let n = cells as u64;
+    match dim {
+        1 => [n, 0, 0],
+        2 => [3 * n, n, 0],
+        _ => [6 * n, 4 * n, n],
+    }
+}
+
+/// The words of all relations but 1→1, 2→2 and 3→3.
+const fn words_apart(dim: u32, vertices: u32, cells: u32) -> u64 {
+    let [one, two, three] = entities(dim, cells);
+    let (top, n) = (dim as u64, cells as u64);
+    5 + (top + 1) * (vertices as u64 + one + two + three + top + 1) + 2 * (2 * one + 6 * two + 14 * three) + n * top * (top + 1)
+}
+
+/// Words that are enough for all relations of a sheet-like mesh, as `DAYBOOK_WORDS_SHEET` of the header.
+pub const fn words_for_sheet(dim: u32, vertices: u32, cells: u32) -> u64 {
+    let [one, two, three] = entities(dim, cells);
+    let (edges, faces) = if dim == 3 { (37, 72) } else { (12, 11) };
+    words_apart(dim, vertices, cells) + one * 2 * edges + two * 3 * faces + three * 4 * 35
+}
+
+/// Words that are enough for all relations of any mesh, as `DAYBOOK_WORDS_ANY` of the header.
+pub const fn words_for_any(dim: u32, vertices: u32, cells: u32) -> u64 {
+    let [one, two, three] = entities(dim, cells);
+    words_apart(dim, vertices, cells) + one * one + two * two + three * three
+}

@@ -1,0 +1,113 @@
+//! The paper's examples and each refusal, through the safe calls.
+use daybook::Refusal;
+
+/// The two triangles {0, 1, 3} and {1, 2, 3}.
+const T: [u8; 14] = [0x80, 0x04, 0x00, 0x10, 0x00, 0x00, 0x00, 0x40, 0x06, 0x00, 0x10, 0x01, 0x00, 0x0C];
+
+fn loaded(words: usize) -> Vec<u32> {
+    let mut book = vec![7; words];
+    daybook::load(&T, &mut book).unwrap();
+    book
+}
+
+#[test]
+fn t_is_loaded_in_fourteen_words() {
+    assert_eq!(loaded(14), [0x80040010, 256, 0, 0, 14, 0, 3, 6, 0, 1, 3, 1, 2, 3]);
+    let mut short = vec![7; 13];
+    assert_eq!(daybook::load(&T, &mut short), Err(Refusal::NoRoom));
+    assert_eq!(short, [7; 13]);
+}
+
+#[test]
+fn all_relations_of_t_take_119_words() {
+    let ask_all = |book: &mut [u32]| (0..9).try_for_each(|k| daybook::ask(book, k / 3, k % 3));
+    let mut book = loaded(119);
+    ask_all(&mut book).unwrap();
+    assert_eq!(book[4], 119);
+    assert_eq!(daybook::held_count(&book), Ok(9));
+    assert_eq!(daybook::euler(&book), Ok(1));
+    assert_eq!(daybook::row(&book, 2, 1, 1), Ok(&[2, 3, 4][..]));
+    assert_eq!(daybook::row(&book, 1, 2, 2), Ok(&[0, 1][..]));
+    assert_eq!(ask_all(&mut loaded(118)), Err(Refusal::NoRoom));
+    assert!(daybook::words_for_sheet(2, 4, 2) >= 119 && daybook::words_for_any(2, 4, 2) >= 119);
+}
+
+#[test]
+fn a_row_is_the_books_own_memory() {
+    let book = loaded(14);
+    let row = daybook::row(&book, 2, 0, 1).unwrap();
+    assert_eq!(row, [1, 2, 3]);
+    assert_eq!(row.as_ptr(), book[11..].as_ptr());
+}
+
+#[test]
+fn the_file_comes_back() {
+    let mut bytes = [0xAA; 16];
+    assert_eq!(daybook::write(&loaded(20), &mut bytes), Ok(14));
+    assert_eq!(bytes[..14], T);
+    assert_eq!(bytes[14..], [0xAA, 0xAA]);
+}
+
+#[test]
+fn files_are_refused() {
+    let refused = |file: &[u8]| daybook::load(file, &mut [7; 64]).unwrap_err();
+    let with = |at: usize, byte: u8| {
+        let mut file = T;
+        file[at] = byte;
+        refused(&file)
+    };
+    assert_eq!(refused(&T[..3]), Refusal::FileTooShort);
+    assert_eq!(with(0, 0x00), Refusal::NoDimension);
+    assert_eq!(with(0, 0xBF), Refusal::ManyVertices);
+    assert_eq!(with(2, 0xFF), Refusal::ManyCells);
+    assert_eq!(with(3, 0x11), Refusal::SpareBits);
+    assert_eq!(refused(&T[..13]), Refusal::FileLength);
+    assert_eq!(with(1, 0x03), Refusal::VertexOut(0));
+    let mut twice = T;
+    twice[11..13].copy_from_slice(&[0x00, 0x80]);
+    assert_eq!(refused(&twice), Refusal::VertexTwice(1));
+    assert_eq!(with(13, 0x0D), Refusal::BitsAfter);
+    assert_eq!(refused(&[]), Refusal::FileTooShort);
+}
+
+#[test]
+fn books_and_numbers_are_refused() {
+    let mut book = loaded(200);
+    assert_eq!(daybook::make(&mut book, 2, 1), Err(Refusal::NeedMissing));
+    assert_eq!(daybook::make(&mut book, 2, 0), Err(Refusal::AlreadyHeld));
+    assert_eq!(daybook::make(&mut book, 1, 0), Ok(()));
+    assert_eq!(daybook::ask(&mut book, 3, 0), Err(Refusal::DimensionOver));
+    assert_eq!(daybook::row(&book, 2, 1, 0), Err(Refusal::NotHeld));
+    assert_eq!(daybook::row(&book, 2, 0, 2), Err(Refusal::NoSuchEntity));
+    assert_eq!(daybook::write(&book, &mut [0; 13]), Err(Refusal::BufferTooShort));
+    assert_eq!(daybook::euler(&loaded(20)), Err(Refusal::NeedMissing));
+    book[199] = 1;
+    assert_eq!(daybook::ask(&mut book, 1, 1), Err(Refusal::RowsBroken));
+    book[4] = 0;
+    assert_eq!(daybook::held_count(&book), Err(Refusal::FrameBroken));
+    assert_eq!(daybook::held_count(&[]), Err(Refusal::FrameBroken));
+    assert_eq!(Refusal::VertexOut(3).to_string(), "refused 7, cell 3");
+}
+
+#[test]
+fn numbers_are_the_papers() {
+    let all = [
+        Refusal::FileTooShort, Refusal::NoDimension, Refusal::ManyVertices, Refusal::ManyCells, Refusal::SpareBits, Refusal::FileLength,
+        Refusal::VertexOut(0), Refusal::VertexTwice(0), Refusal::BitsAfter, Refusal::FrameBroken, Refusal::RowsBroken, Refusal::DimensionOver,
+        Refusal::NoRoom, Refusal::AlreadyHeld, Refusal::NeedMissing, Refusal::NotHeld, Refusal::NoSuchEntity, Refusal::BufferTooShort,
+    ];
+    assert!(all.iter().map(|r| r.number()).eq(1..=18));
+}
+
+#[test]
+fn threads_with_books_of_their_own() {
+    std::thread::scope(|scope| {
+        for _ in 0..4 {
+            scope.spawn(|| {
+                let mut book = loaded(200);
+                daybook::ask(&mut book, 2, 2).unwrap();
+                assert_eq!(daybook::row(&book, 2, 2, 0), Ok(&[1][..]));
+            });
+        }
+    });
+}

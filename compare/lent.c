@@ -1,0 +1,277 @@
+/* Runs of the C interface that need C: the sizes that the header promises are enough, the stack that each call
+ * needs, measured by painting it, and calls on different books side by side in threads.
+ *
+ * Prints what it measured, and ends with 1 at the first thing that is not as the header says.
+ */
+#define _GNU_SOURCE
+#include "daybook.h"
+#include <pthread.h>
+#include <stdio.h>
+#include <stdlib.h>
+#include <string.h>
+
+enum { STACK = 1 << 20, PROMISED = 512 << 10, LITTLE = 16 << 10, THREADS = 8, ROUNDS = 6 };
+
+static void fail(const char *what) {
+    printf("not as the header says: %s\n", what);
+    exit(1);
+}
+
+/* ---- meshes, as day files */
+
+struct mesh {
+    unsigned dim, vertices, cells;
+    unsigned *corners;
+    int sheet; /* no vertex in many cells, and no two parts that touch in a point */
+};
+
+static struct mesh empty(unsigned dim, unsigned vertices, unsigned most) {
+    struct mesh m = {dim, vertices, 0, malloc(sizeof(unsigned) * (most + 1) * 4), 1};
+    if (!m.corners) exit(3);
+    return m;
+}
+
+static void add(struct mesh *m, unsigned a, unsigned b, unsigned c, unsigned d) {
+    unsigned v[4] = {a, b, c, d};
+    for (unsigned k = 0; k <= m->dim; k++) m->corners[m->cells * (m->dim + 1) + k] = v[k];
+    m->cells++;
+}
+
+static struct mesh sheet(unsigned n) {
+    struct mesh m = empty(2, n * n, 2 * n * n);
+    for (unsigned y = 0; y + 1 < n; y++)
+        for (unsigned x = 0; x + 1 < n; x++) {
+            unsigned a = y * n + x;
+            add(&m, a, a + 1, a + n + 1, 0);
+            add(&m, a + n, a, a + n + 1, 0);
+        }
+    return m;
+}
+
+/* Two scans of n by n points, one above the other: each prism between them is three tetrahedra. */
+static struct mesh stacked(unsigned n) {
+    struct mesh m = empty(3, 2 * n * n, 6 * n * n), flat = sheet(n);
+    for (unsigned c = 0; c < flat.cells; c++) {
+        unsigned *v = flat.corners + 3 * c, low[3] = {v[0], v[1], v[2]}, up = n * n;
+        for (int turn = 0; turn < 3; turn++)
+            for (int k = 0; k < 2; k++)
+                if (low[k] > low[k + 1]) {
+                    unsigned t = low[k];
+                    low[k] = low[k + 1];
+                    low[k + 1] = t;
+                }
+        add(&m, low[0], low[1], low[2], low[2] + up);
+        add(&m, low[0], low[1], low[1] + up, low[2] + up);
+        add(&m, low[0], low[0] + up, low[1] + up, low[2] + up);
+    }
+    free(flat.corners);
+    return m;
+}
+
+static struct mesh chain(unsigned n) {
+    struct mesh m = empty(1, n + 1, n);
+    for (unsigned k = 0; k < n; k++) add(&m, k + 1, k, 0, 0);
+    return m;
+}
+
+/* All n cells around one vertex. */
+static struct mesh fan(unsigned n) {
+    struct mesh m = empty(2, n + 2, n);
+    for (unsigned k = 1; k <= n; k++) add(&m, 0, k, k + 1, 0);
+    m.sheet = 0;
+    return m;
+}
+
+/* Cells that have nothing in common: no edge and no face is shared. */
+static struct mesh apart(unsigned dim, unsigned n) {
+    struct mesh m = empty(dim, n * (dim + 1), n);
+    for (unsigned k = 0; k < n; k++) add(&m, k * (dim + 1), k * (dim + 1) + 1, k * (dim + 1) + 2, k * (dim + 1) + 3);
+    return m;
+}
+
+static uint32_t last = 7;
+
+static unsigned below(unsigned n) {
+    last = last * 1664525u + 1013904223u;
+    return (unsigned)((uint64_t)last * n >> 32);
+}
+
+static struct mesh random_cells(unsigned dim, unsigned vertices, unsigned n) {
+    struct mesh m = empty(dim, vertices, n);
+    m.sheet = 0;
+    while (m.cells < n) {
+        unsigned v[4], distinct = 1;
+        for (unsigned k = 0; k <= dim; k++) {
+            v[k] = below(vertices);
+            for (unsigned j = 0; j < k; j++) distinct &= v[j] != v[k];
+        }
+        if (distinct) add(&m, v[0], v[1], v[2], v[3]);
+    }
+    return m;
+}
+
+static size_t file_of(struct mesh m, uint8_t *bytes) {
+    size_t bit = 32, length = 4 + (13 * (size_t)(m.dim + 1) * m.cells + 7) / 8;
+    uint32_t head = m.dim << 30 | m.vertices << 16 | m.cells << 3;
+    memset(bytes, 0, length);
+    for (int k = 0; k < 4; k++) bytes[k] = (uint8_t)(head >> (24 - 8 * k));
+    for (unsigned i = 0; i < (m.dim + 1) * m.cells; i++)
+        for (int k = 12; k >= 0; k--, bit++)
+            if (m.corners[i] >> k & 1) bytes[bit / 8] |= (uint8_t)(128 >> bit % 8);
+    return length;
+}
+
+/* ---- the sizes that the header promises */
+
+static uint8_t file[32768];
+
+static void enough(const char *name, struct mesh m) {
+    uint64_t words = m.sheet ? DAYBOOK_WORDS_SHEET(m.dim, m.vertices, m.cells) : DAYBOOK_WORDS_ANY(m.dim, m.vertices, m.cells);
+    uint32_t *book = malloc(words * sizeof *book), cell;
+    if (!book) exit(3);
+    if (daybook_load(file, file_of(m, file), book, words, &cell)) fail(name);
+    for (unsigned d = 0; d <= m.dim; d++)
+        for (unsigned e = 0; e <= m.dim; e++)
+            if (daybook_ask(book, words, d, e)) fail(name);
+    printf("%s: all relations take %u words; %s gives %llu\n", name, (unsigned)book[4], m.sheet ? "DAYBOOK_WORDS_SHEET" : "DAYBOOK_WORDS_ANY",
+           (unsigned long long)words);
+    free(book);
+    free(m.corners);
+}
+
+/* ---- the stack */
+
+/* One call, made on a stack of its own. */
+struct call {
+    int which;
+    unsigned d, e;
+    uint32_t *book;
+    size_t words, size;
+    uint32_t number;
+};
+
+static void *make_call(void *place) {
+    struct call *c = place;
+    uint32_t cell = 0, count = 0;
+    size_t start = 0, length = 0;
+    int64_t euler = 0;
+    static uint8_t bytes[32768];
+    switch (c->which) {
+    case 0: c->number = daybook_load(file, c->size, c->book, c->words, &cell); break;
+    case 1: c->number = daybook_ask(c->book, c->words, c->d, c->e); break;
+    case 2: c->number = daybook_make(c->book, c->words, c->d, c->e); break;
+    case 3: c->number = daybook_row(c->book, c->words, c->d, c->e, 0, &start, &length); break;
+    case 4: c->number = daybook_write(c->book, c->words, bytes, sizeof bytes, &length); break;
+    case 5: c->number = daybook_euler(c->book, c->words, &euler); break;
+    case 6: c->number = daybook_held_count(c->book, c->words, &count); break;
+    default: break;
+    }
+    return NULL;
+}
+
+/* The bytes of a painted stack that a thread with this call has overwritten. */
+static size_t painted(struct call *c) {
+    static unsigned char stack[STACK] __attribute__((aligned(4096)));
+    pthread_attr_t attributes;
+    pthread_t thread;
+    size_t clean = 0;
+    memset(stack, 0xC3, sizeof stack);
+    pthread_attr_init(&attributes);
+    if (pthread_attr_setstack(&attributes, stack, sizeof stack) || pthread_create(&thread, &attributes, make_call, c)) exit(3);
+    pthread_join(thread, NULL);
+    pthread_attr_destroy(&attributes);
+    while (clean < sizeof stack && stack[clean] == 0xC3) clean++;
+    return sizeof stack - clean;
+}
+
+static size_t most[8];
+
+static void measure(struct mesh m) {
+    size_t words = 1500000;
+    struct call c = {7, 0, 0, calloc(words, 4), words, file_of(m, file), 0};
+    if (!c.book) exit(3);
+    size_t bare = painted(&c);
+    for (c.which = 0; c.which < 7; c.which++)
+        for (c.d = 0; c.d <= m.dim; c.d++)
+            for (c.e = 0; c.e <= m.dim; c.e++) {
+                /* make is measured on a book that holds nothing but D -> 0 yet */
+                if (c.which == 2) daybook_load(file, c.size, c.book, c.words, &c.number);
+                size_t used = painted(&c) - bare;
+                if (c.which != 2 && c.number) fail("a call that should be accepted");
+                if (used > most[c.which]) most[c.which] = used;
+                if (c.which == 2) daybook_ask(c.book, c.words, c.d, c.e);
+                if (c.which == 2)
+                    for (unsigned d = 0; d <= m.dim; d++)
+                        for (unsigned e = 0; e <= m.dim; e++) daybook_ask(c.book, c.words, d, e);
+            }
+    free(c.book);
+    free(m.corners);
+}
+
+/* ---- side by side */
+
+struct worker {
+    uint8_t file[32768];
+    size_t size, words;
+    uint32_t *book, number;
+};
+
+static void *work(void *place) {
+    struct worker *w = place;
+    uint32_t cell;
+    w->number = daybook_load(w->file, w->size, w->book, w->words, &cell);
+    for (unsigned d = 0; d <= w->book[0] >> 30; d++)
+        for (unsigned e = 0; e <= w->book[0] >> 30; e++) w->number |= daybook_ask(w->book, w->words, d, e);
+    return NULL;
+}
+
+static void side_by_side(void) {
+    static struct worker workers[THREADS], alone;
+    for (int round = 0; round < ROUNDS; round++) {
+        pthread_t threads[THREADS];
+        for (int k = 0; k < THREADS; k++) {
+            struct mesh m = k % 2 ? random_cells(3, 60 + k, 200) : sheet(12 + k + round);
+            workers[k].words = 200000;
+            workers[k].size = file_of(m, workers[k].file);
+            workers[k].book = malloc(200000 * 4);
+            free(m.corners);
+        }
+        for (int k = 0; k < THREADS; k++)
+            if (pthread_create(&threads[k], NULL, work, &workers[k])) exit(3);
+        for (int k = 0; k < THREADS; k++) pthread_join(threads[k], NULL);
+        for (int k = 0; k < THREADS; k++) {
+            alone = workers[k];
+            alone.book = malloc(200000 * 4);
+            work(&alone);
+            if (workers[k].number || memcmp(alone.book, workers[k].book, 200000 * 4)) fail("calls on different books side by side");
+            free(alone.book);
+            free(workers[k].book);
+        }
+    }
+    printf("%d books side by side in threads, %d times: each as if it were alone\n", THREADS, ROUNDS);
+}
+
+int main(void) {
+    setvbuf(stdout, NULL, _IOLBF, 0);
+    static const char *names[] = {"load", "ask", "make", "row", "write", "euler", "held_count"};
+    enough("a sheet of 3,698 triangles", sheet(44));
+    enough("two stacked scans of 4,056 tetrahedra", stacked(27));
+    enough("a chain of 4,096 intervals", chain(4096));
+    enough("2,700 triangles apart", apart(2, 2700));
+    enough("2,000 tetrahedra apart", apart(3, 2000));
+    enough("one triangle", apart(2, 1));
+    enough("no cells", chain(0));
+    enough("a fan of 300 triangles", fan(300));
+    for (unsigned dim = 1; dim <= 3; dim++) enough("random cells on few vertices", random_cells(dim, 8, 250));
+    for (unsigned dim = 1; dim <= 3; dim++) enough("random cells on many vertices", random_cells(dim, 900, 250));
+    measure(sheet(45));
+    measure(stacked(27));
+    measure(random_cells(3, 8192, 4096));
+    measure(chain(100));
+    for (int k = 0; k < 7; k++) {
+        printf("%s: %lu bytes of stack\n", names[k], (unsigned long)most[k]);
+        if (most[k] > (k == 1 || k == 2 ? PROMISED : LITTLE)) fail("the stack that a call needs");
+    }
+    side_by_side();
+    return 0;
+}

@@ -1,0 +1,108 @@
+/* Walks a day file of triangles from cell to cell over shared edges, as a phase unwrapper does, and prints what it meets.
+ *
+ *     walk FILE
+ *
+ * Built with the two files that ./library leaves in a folder:
+ *
+ *     cc -std=c99 -I FOLDER walk.c FOLDER/libdaybook.a -o walk
+ */
+#include "daybook.h"
+#include <stdio.h>
+#include <stdlib.h>
+
+static uint8_t file[32768];
+static uint32_t *book;
+static size_t words;
+
+/* A row of one of the book's relations. */
+struct row {
+    const uint32_t *at;
+    size_t count;
+};
+
+static struct row row(uint32_t d, uint32_t e, uint32_t i) {
+    size_t start = 0, count = 0;
+    struct row r;
+    if (daybook_row(book, words, d, e, i, &start, &count)) exit(1);
+    r.at = book + start;
+    r.count = count;
+    return r;
+}
+
+/* Loads the file and asks for what the walk needs: the edges of a cell, the cells at an edge, and the cells around a cell. */
+static uint32_t prepare(size_t size) {
+    uint32_t cell, number = daybook_load(file, size, book, words, &cell);
+    if (!number) number = daybook_ask(book, words, 2, 1);
+    if (!number) number = daybook_ask(book, words, 1, 2);
+    if (!number) number = daybook_ask(book, words, 2, 2);
+    return number;
+}
+
+/* Walks the piece that the cell belongs to, and marks its cells. */
+static void walk(uint32_t first, unsigned char *seen, uint32_t *queue) {
+    uint32_t next = 0, last = 0;
+    printf("cell %u: a piece begins here\n", (unsigned)first);
+    seen[first] = 1;
+    queue[last++] = first;
+    while (next < last) {
+        uint32_t from = queue[next++];
+        struct row edges = row(2, 1, from);
+        for (size_t k = 0; k < edges.count; k++) {
+            uint32_t edge = edges.at[k];
+            struct row ends = row(1, 0, edge), beside = row(1, 2, edge);
+            for (size_t m = 0; m < beside.count; m++) {
+                uint32_t to = beside.at[m];
+                if (seen[to]) continue;
+                seen[to] = 1;
+                queue[last++] = to;
+                printf("cell %u from cell %u over edge %u, from vertex %u to vertex %u\n", (unsigned)to, (unsigned)from, (unsigned)edge,
+                       (unsigned)ends.at[0], (unsigned)ends.at[1]);
+            }
+        }
+    }
+}
+
+int main(int count, char **names) {
+    FILE *in = count == 2 ? fopen(names[1], "rb") : NULL;
+    if (!in) {
+        fprintf(stderr, "walk FILE: a day file of triangles\n");
+        return 2;
+    }
+    size_t size = fread(file, 1, sizeof file, in);
+    fclose(in);
+
+    /* A book for a sheet of the file's size, and twice as large a one as long as it is too small for this mesh. */
+    uint32_t head = (uint32_t)file[0] << 24 | (uint32_t)file[1] << 16 | (uint32_t)file[2] << 8 | file[3];
+    uint32_t cells = head >> 3 & 0x1FFF, number = DAYBOOK_NO_ROOM;
+    for (words = DAYBOOK_WORDS_SHEET(2, head >> 16 & 0x3FFF, cells); number == DAYBOOK_NO_ROOM; words *= 2) {
+        free(book);
+        book = malloc(words * sizeof *book);
+        if (!book) return 2;
+        number = prepare(size);
+        if (number != DAYBOOK_NO_ROOM) break;
+    }
+    if (number == DAYBOOK_DIMENSION_OVER || (!number && book[0] >> 30 != 2)) {
+        printf("no triangles: D is %u\n", (unsigned)(head >> 30));
+        return 1;
+    }
+    if (number) {
+        printf("refused %u\n", (unsigned)number);
+        return 1;
+    }
+
+    unsigned char *seen = calloc(cells + 1, 1);
+    uint32_t *queue = calloc(cells + 1, sizeof *queue), pieces = 0, border = 0, most = 0;
+    if (!seen || !queue) return 2;
+    for (uint32_t cell = 0; cell < cells; cell++)
+        if (!seen[cell]) pieces++, walk(cell, seen, queue);
+    for (uint32_t edge = 0; edge < book[2]; edge++)
+        if (row(1, 2, edge).count == 1) border++;
+    for (uint32_t cell = 0; cell < cells; cell++)
+        if (row(2, 2, cell).count > most) most = (uint32_t)row(2, 2, cell).count;
+    printf("cells: %u, pieces: %u, edges: %u, at the border: %u, most cells around one: %u\n", (unsigned)cells, (unsigned)pieces, (unsigned)book[2],
+           (unsigned)border, (unsigned)most);
+    free(queue);
+    free(seen);
+    free(book);
+    return 0;
+}
