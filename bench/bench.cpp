@@ -1,11 +1,10 @@
-// Each ask, and all together, through the proved library and through the plain program, in one run on the same meshes.
-// Prints a line for each: the mesh, the relation, both times in microseconds and their ratio.
+// Each call through the proved library and through the plain program, in one run on the same meshes; after each the two hold the same.
+// Prints a line for each: the mesh, the call, both times in microseconds and their ratio; then what a book takes for each cell.
 #include "daybook.h"
 #include "plain.hpp"
 #include <chrono>
 #include <cstdio>
 #include <cstdlib>
-#include <random>
 #include <string>
 
 using Mesh = std::vector<std::vector<uint32_t>>;
@@ -37,13 +36,15 @@ static Named box(unsigned n, unsigned m, unsigned k) {
     return {"box " + std::to_string(n) + "x" + std::to_string(m) + "x" + std::to_string(k), 3, (n + 1) * (m + 1) * (k + 1), cells, true};
 }
 
+// Random tetrahedra; compare/meshes.py has the same.
 static Named scattered(unsigned count, unsigned points) {
-    std::mt19937 random(7);
+    uint32_t last = 7;
     Mesh cells;
     while (cells.size() < count) {
         std::vector<uint32_t> c;
         while (c.size() < 4) {
-            uint32_t v = random() % points;
+            last = last * 1664525u + 1013904223u;
+            uint32_t v = uint32_t(uint64_t(last) * points >> 32);
             if (std::find(c.begin(), c.end(), v) == c.end()) c.push_back(v);
         }
         cells.push_back(c);
@@ -67,22 +68,6 @@ static std::vector<uint8_t> file_of(const Named &m) {
     std::vector<uint8_t> out(bits.size() / 8);
     for (size_t i = 0; i < bits.size(); i++) out[i / 8] |= uint8_t(bits[i]) << (7 - i % 8);
     return out;
-}
-
-static plain::Book book_of(const Named &m) {
-    plain::Book b;
-    b.dim = m.dim;
-    b.counts[0] = m.points;
-    b.counts[m.dim] = uint32_t(m.cells.size());
-    plain::Relation r;
-    r.offsets.push_back(0);
-    for (auto c : m.cells) {
-        std::sort(c.begin(), c.end());
-        r.indices.insert(r.indices.end(), c.begin(), c.end());
-        r.offsets.push_back(uint32_t(r.indices.size()));
-    }
-    b.held.emplace(plain::key(m.dim, 0), r);
-    return b;
 }
 
 static double now() {
@@ -118,25 +103,6 @@ static std::vector<uint32_t> book_with(const Named &m, const std::vector<std::pa
     return book;
 }
 
-// Asks for all of these in order, on a book that holds what stands in `before`, lent the words it ends up using and `spare` more.
-static void compare(const Named &m, const std::string &what, const std::vector<std::pair<unsigned, unsigned>> &before,
-                    const std::vector<std::pair<unsigned, unsigned>> &asked, size_t spare, int times) {
-    auto all = before;
-    all.insert(all.end(), asked.begin(), asked.end());
-    size_t room = book_with(m, all)[4] + spare;
-    auto book = book_with(m, before, room);
-    plain::Book plainly = book_of(m);
-    for (auto a : before) must(plain::ask(plainly, a.first, a.second), "plain ask");
-    double ours = best([&] { return book; }, [&](std::vector<uint32_t> &b) {
-        for (auto a : asked) must(daybook_ask(b.data(), room, a.first, a.second) == 0, "ask");
-    }, times);
-    double theirs = best([&] { return plainly; }, [&](plain::Book &b) {
-        for (auto a : asked) must(plain::ask(b, a.first, a.second), "plain ask");
-    }, times);
-    std::printf("%-12s %-9s %9zu %10.0f %10.0f %6.2f\n", m.name.c_str(), what.c_str(), room, ours, theirs, ours / theirs);
-    std::fflush(stdout);
-}
-
 // The relations of a mesh that are not there after a load, by ascending key; on the fan without d->d, which is quadratic by its size.
 static std::vector<std::pair<unsigned, unsigned>> relations(const Named &m) {
     std::vector<std::pair<unsigned, unsigned>> out;
@@ -146,10 +112,111 @@ static std::vector<std::pair<unsigned, unsigned>> relations(const Named &m) {
     return out;
 }
 
+// The two hold the same relations, row for row.
+static bool same(const std::vector<uint32_t> &book, const plain::Book &plainly) {
+    size_t at = 5;
+    for (unsigned k = 0; k < 16; k++) {
+        auto found = plainly.held.find(k);
+        if ((found != plainly.held.end()) != bool(book[1] >> k & 1)) return false;
+        if (found == plainly.held.end()) continue;
+        for (auto *part : {&found->second.offsets, &found->second.indices}) {
+            if (at + part->size() > book[4] || !std::equal(part->begin(), part->end(), book.begin() + at)) return false;
+            at += part->size();
+        }
+    }
+    return at == book[4];
+}
+
+static plain::Book loaded(const Named &m) {
+    plain::Book b;
+    must(plain::load(file_of(m), b), "plain load");
+    return b;
+}
+
+static void line(const Named &m, const std::string &what, size_t words, double ours, double theirs) {
+    std::printf("%-12s %-9s %9zu %10.2f %10.2f %6.2f\n", m.name.c_str(), what.c_str(), words, ours, theirs, ours / theirs);
+    std::fflush(stdout);
+}
+
+// Asks for all of these in order, on a book that holds what stands in `before`, lent the words it ends up using and `spare` more.
+static void compare(const Named &m, const std::string &what, const std::vector<std::pair<unsigned, unsigned>> &before,
+                    const std::vector<std::pair<unsigned, unsigned>> &asked, size_t spare, int times) {
+    auto all = before;
+    all.insert(all.end(), asked.begin(), asked.end());
+    size_t room = book_with(m, all)[4] + spare;
+    auto book = book_with(m, before, room);
+    plain::Book plainly = loaded(m);
+    for (auto a : before) must(plain::ask(plainly, a.first, a.second), "plain ask");
+    auto ask = [&](std::vector<uint32_t> &b) {
+        for (auto a : asked) must(daybook_ask(b.data(), room, a.first, a.second) == 0, "ask");
+    };
+    auto ask_plainly = [&](plain::Book &b) {
+        for (auto a : asked) must(plain::ask(b, a.first, a.second), "plain ask");
+    };
+    line(m, what, room, best([&] { return book; }, ask, times), best([&] { return plainly; }, ask_plainly, times));
+    ask(book), ask_plainly(plainly);
+    must(same(book, plainly), "the two programs hold different relations");
+}
+
+// Load and write of a mesh, in a book of the words that its cells take.
+static void compare_files(const Named &m) {
+    auto file = file_of(m);
+    std::vector<uint32_t> book(6 + m.cells.size() * (m.dim + 2));
+    plain::Book plainly;
+    uint32_t cell;
+    auto nothing = [] { return 0; };
+    line(m, "load", book.size(), best(nothing, [&](int) { must(daybook_load(file.data(), file.size(), book.data(), book.size(), &cell) == 0, "load"); }, 9),
+         best(nothing, [&](int) { must(plain::load(file, plainly), "plain load"); }, 9));
+    must(same(book, plainly), "the two programs load different cells");
+    std::vector<uint8_t> ours(file.size()), theirs;
+    size_t length = 0;
+    line(m, "write", book.size(), best(nothing, [&](int) { must(daybook_write(book.data(), book.size(), ours.data(), ours.size(), &length) == 0, "write"); }, 9),
+         best(nothing, [&](int) { must(plain::write(plainly, theirs), "plain write"); }, 9));
+    must(ours == theirs && length == ours.size(), "the two programs write different files");
+}
+
+// One row of D->0, many times over, in a book of so many words.
+static void compare_rows(const Named &m, size_t words) {
+    const uint32_t calls = 1000000;
+    auto book = book_with(m, relations(m), words);
+    plain::Book plainly = loaded(m);
+    for (auto r : relations(m)) must(plain::ask(plainly, r.first, r.second), "plain ask");
+    uint32_t cells = uint32_t(m.cells.size());
+    uint64_t met = 0, met_plainly = 0;
+    auto nothing = [] { return 0; };
+    double ours = best(nothing, [&](int) {
+        met = 0;
+        for (uint32_t k = 0; k < calls; k++) {
+            size_t start = 0, count = 0;
+            must(daybook_row(book.data(), words, m.dim, m.dim - 1, k % cells, &start, &count) == 0, "row");
+            met += book[start] + count;
+        }
+    }, 3);
+    double theirs = best(nothing, [&](int) {
+        met_plainly = 0;
+        for (uint32_t k = 0; k < calls; k++) {
+            size_t count = 0;
+            const uint32_t *row = plain::row(plainly, m.dim, m.dim - 1, k % cells, count);
+            must(row != nullptr, "plain row");
+            met_plainly += *row + count;
+        }
+    }, 3);
+    must(met == met_plainly, "the two programs give different rows");
+    line(m, "row", words, ours / calls, theirs / calls);
+}
+
+// What a book takes for each cell: D->0 alone, all relations, and the paper's 4 (D + 2) bytes.
+static void memory(const Named &m) {
+    double cells = double(m.cells.size());
+    std::printf("%-12s %8.1f %8.1f %8u\n", m.name.c_str(), 4 * book_with(m, {})[4] / cells, 4 * book_with(m, relations(m))[4] / cells, 4 * (m.dim + 2));
+}
+
 int main() {
-    std::printf("%-12s %-9s %9s %10s %10s %6s\n", "mesh", "ask", "words", "library us", "plain us", "ratio");
-    for (const Named &m : {sheet(45), box(8, 8, 10), scattered(4096, 8192), fan(4096)}) {
+    std::printf("%-12s %-9s %9s %10s %10s %6s\n", "mesh", "call", "words", "library us", "plain us", "ratio");
+    const std::vector<Named> meshes = {sheet(45), box(8, 8, 10), scattered(4096, 8192), fan(4096)};
+    for (const Named &m : meshes) {
         int times = m.level ? 5 : 3;
+        compare_files(m);
         for (auto r : relations(m)) compare(m, std::to_string(r.first) + "->" + std::to_string(r.second), plain::needs(m.dim, r.first, r.second), {r}, 0, times);
         compare(m, "all", {}, relations(m), 0, times);
     }
@@ -159,5 +226,10 @@ int main() {
     for (unsigned n : {256, 1024, 4096}) compare(scattered(n, 2 * n), "all", {}, relations(scattered(n, 2 * n)), 0, 5);
     // what a lent word costs that no relation needs
     for (size_t spare : {0, 1 << 18, 1 << 20}) compare(sheet(45), "0->2", {}, {{0, 2}}, spare, 5);
+    // a row's cost does not depend on the book
+    compare_rows(sheet(3), 1000);
+    compare_rows(box(8, 8, 7), 1000000);
+    std::printf("\n%-12s %8s %8s %8s\n", "mesh", "D->0", "all", "paper");
+    for (const Named &m : meshes) memory(m);
     return 0;
 }

@@ -58,6 +58,20 @@ def box(n, m, k):
     return 3, (n + 1) * (m + 1) * (k + 1), cells
 
 
+def scattered(count, points):
+    """Random tetrahedra, the same as those of bench/bench.cpp."""
+    last, cells = 7, []
+    while len(cells) < count:
+        cell = []
+        while len(cell) < 4:
+            last = (last * 1664525 + 1013904223) & 0xFFFFFFFF
+            v = last * points >> 32
+            if v not in cell:
+                cell.append(v)
+        cells.append(cell)
+    return 3, points, cells
+
+
 def damaged_file(rng, data):
     """The file cut, made longer, with a bit turned, or broken on purpose so that each refusal comes up."""
     data = bytearray(data)

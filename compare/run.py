@@ -197,7 +197,7 @@ class Runs:
         """Meshes of the full size: whole, and one vertex, one cell or one word too many."""
         rng = self.rng
         whole = meshes.random_mesh(rng, 3, 8192, 4096)
-        for mesh in (whole, meshes.sheet(46, 46), meshes.box(8, 8, 10), meshes.fan(4098), meshes.random_mesh(rng, 1, 8192, 4096)):
+        for mesh in (whole, meshes.sheet(46, 46), meshes.box(8, 8, 10), meshes.scattered(4096, 8192), meshes.fan(4098), meshes.random_mesh(rng, 1, 8192, 4096)):
             data = rules.file_bytes(*mesh)
             need = 6 + len(mesh[2]) * (mesh[0] + 2)
             for room in (need - 1, need, 1500000):
@@ -235,7 +235,7 @@ class Runs:
 
     def examples(self):
         """Examples 10 and 11 of the paper, whose numbers stand here as the paper gives them."""
-        t = rules.file_bytes(2, 4, [[0, 1, 2], [1, 2, 3]])
+        t = rules.file_bytes(2, 4, [[0, 1, 3], [1, 2, 3]])
         for room, number in ((54, 0), (53, 13)):
             self.use([7] * room)
             self.demand("T is loaded", self.load(t), 0)
