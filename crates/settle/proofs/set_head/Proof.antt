@@ -9,27 +9,24 @@ use Rattle.settle.proofs.set_head.Tie as tie
 use Rattle.settle.proofs.set_head.Reads as reads
 use Rattle.settle.proofs.set_head.Lts as lts
 
--- src/lib.rt:61:5
 slice-write-book : tie.Need-slice-write-book
 slice-write-book c = search needs
 
--- src/lib.rt:62:5
 slice-write-book-2 : tie.Need-slice-write-book-2
 slice-write-book-2 c = simp length-set (omega arith)
 
--- src/lib.rt:63:5
 slice-write-book-3 : tie.Need-slice-write-book-3
 slice-write-book-3 c = simp length-set (omega arith)
 
--- src/lib.rt:64:5
+cast-book : tie.Need-cast-book
+cast-book c = search needs
+
 slice-write-book-4 : tie.Need-slice-write-book-4
 slice-write-book-4 c = simp length-set (omega arith)
 
--- src/lib.rt:57:1
 same-length : tie.Need-same-length
 same-length c = simp length-set
 
--- src/lib.rt:57:1
 returns : tie.Need-returns
 unfolding headed
 returns c = refl
@@ -41,6 +38,7 @@ set-head-spec =
     slice-write-book
     slice-write-book-2
     slice-write-book-3
+    cast-book
     slice-write-book-4
     same-length
     returns)
