@@ -23,10 +23,10 @@ shared-slice-read-result : tie.Need-shared-slice-read-result
 shared-slice-read-result c = search needs
 
 cast-result : tie.Need-cast-result
-cast-result c = omega (arith, c .shared-slice-known .given (c .before .args .rows + c .before .args .i))
+cast-result c = omega (arith, c .shared-slice-known .given (c .before .args .rows .0 + c .before .args .i))
 
 add-result-4 : tie.Need-add-result-4
-add-result-4 c = omega (arith, c .shared-slice-known .given (c .before .args .rows + c .before .args .i))
+add-result-4 c = omega (arith, c .shared-slice-known .given (c .before .args .rows .0 + c .before .args .i))
 
 returns : tie.Need-returns
 unfolding startOf
