@@ -21,5 +21,6 @@ pub fn start_of(book: &[u32], rows: Place, n: usize, i: usize) -> Place
     ensures { λ r. ⌜ r .0 ≡ startOf (now (book .entry)) (rows .0) n i ⌝ }
 {
     let at = rows.0;
-    Place(at + n + 1 + book[at + i] as usize)
+    let start = at + n + 1 + book[at + i] as usize;
+    Place(start)
 }
