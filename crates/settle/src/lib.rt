@@ -60,10 +60,11 @@ pub fn set_head(book: &mut [u32], mask: u32, edges: u32, faces: u32, used: Place
     requires { ⌜ (5 ≤ length (now book)) × (used .0 < 2 ^ 32) ⌝ }
     ensures { λ r. ⌜ now (book .exit) ≡ headed mask edges faces (used .0) (now (book .entry)) ⌝ }
 {
+    let used_words = used.0 as u32;
     book[1] = mask;
     book[2] = edges;
     book[3] = faces;
-    book[4] = used.0 as u32;
+    book[4] = used_words;
 }
 
 // Brings the words from `from` up to `end` down to `to`, and gives the place after them.
