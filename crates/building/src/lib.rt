@@ -45,14 +45,11 @@ pub fn build(book: &mut [u32], cells: Cells, d: u32, dst: Place) -> Built
         &mut sets,
         &mut head,
         &mut next,
-        at.0,
+        at,
         cells.count as usize,
         cells.dim,
         d,
     );
-    let end = write_sets(book, &sets, dst.0, n, d);
-    Built {
-        end: Place(end),
-        count: n,
-    }
+    let end = write_sets(book, &sets, dst, n, d);
+    Built { end: end, count: n }
 }

@@ -2,6 +2,7 @@
 use crate::candidates::candidates;
 use crate::candidates::choices;
 use crate::candidates::corners;
+use book::Place;
 use relations::words::start_of;
 ghost use mathlib.Core.Path.{_≡_};
 ghost use mathlib.Core.Bool.{Bool, true};
@@ -111,14 +112,14 @@ pub(crate) fn meet_cells(
     sets: &mut [u32; 73728],
     head: &mut [u32; 8192],
     next: &mut [u32; 24576],
-    at: usize,
+    at: Place,
     cells: usize,
     top: u32,
     d: u32,
 ) -> u32
-    requires { ⌜ Chains (now sets) (now head) (now next) 0 ⌝ ∗ ⌜ Between d top ⌝ ∗ ⌜ Corners (now book) top at cells ⌝ }
+    requires { ⌜ Chains (now sets) (now head) (now next) 0 ⌝ ∗ ⌜ Between d top ⌝ ∗ ⌜ Corners (now book) top (at .0) cells ⌝ }
     ensures { λ r. ⌜ Chains (now (sets .exit)) (now (head .exit)) (now (next .exit)) r ⌝ }
-    ensures { λ r. ⌜ entities (now (sets .exit)) r ≡ map (padded d) (built d [] (map (rowAt (now (book .entry)) at cells) (upTo cells))) ⌝ }
+    ensures { λ r. ⌜ entities (now (sets .exit)) r ≡ map (padded d) (built d [] (map (rowAt (now (book .entry)) (at .0) cells) (upTo cells))) ⌝ }
 {
     let many = choices(top, d);
     let mut n: u32 = 0;

@@ -53,7 +53,8 @@ pub fn load(file: &[u8], book: &mut [u32]) -> Loaded
         return refused(fault);
     }
     let head = dayfile::header(file);
-    if book.len() < loading::words_for(head) {
+    let end = loading::end_of(head);
+    if book.len() < end.0 {
         return Loaded::NoRoom;
     }
     loading::fill(file, book);

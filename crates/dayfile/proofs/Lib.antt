@@ -3,3 +3,4 @@ pub mod Bounds
 pub mod Filled
 pub mod Four
 pub mod Network
+pub mod Numbers

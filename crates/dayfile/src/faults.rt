@@ -7,6 +7,7 @@ ghost use Rattle.rules.specs.Lists.{firstAt};
 ghost use Rattle.rules.specs.File.{field, fileVertices, cellsInFile, outOf, twice, padSet, headDim, headVertices, headLength};
 ghost use Rattle.rules.specs.Calls.{fileNumber, faultCell};
 ghost use Rattle.dayfile.specs.Faults.{faultOf};
+ghost use Rattle.dayfile.specs.Numbers.{numbers};
 use crate::head::cells;
 use crate::head::dimension;
 use crate::head::end_bit;
@@ -28,13 +29,13 @@ fn is_out(v: Vertex, head: Header) -> bool
 }
 
 // Whether one of the first `n` vertices is N_0 or more.
-fn out_of(v: [u32; 4], n: usize, head: Header) -> bool
+fn out_of(v: [Vertex; 4], n: usize, head: Header) -> bool
     requires { ⌜ n ≤ 4 ⌝ }
-    ensures { λ r. ⌜ r ≡ outOf (headVertices (head .0)) (take n v) ⌝ }
+    ensures { λ r. ⌜ r ≡ outOf (headVertices (head .0)) (take n (numbers v)) ⌝ }
 {
     let mut k: usize = 0;
     while k < n {
-        if is_out(Vertex(v[k]), head) {
+        if is_out(v[k], head) {
             return true;
         }
         k += 1;
@@ -75,7 +76,7 @@ fn first_twice(file: &[u8], head: Header) -> Cell
         while i < n {
             let mut j = i + 1;
             while j < n {
-                if v[i] == v[j] {
+                if v[i].0 == v[j].0 {
                     break 'cells;
                 }
                 j += 1;

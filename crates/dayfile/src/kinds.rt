@@ -11,7 +11,7 @@ pub struct Header(pub u32);
 
 // A cell's vertices, ascending, with 0 after the last of them.
 pub struct Corners {
-    pub vertices: [u32; 4],
+    pub vertices: [Vertex; 4],
 }
 
 // The first fault of a file, in the order of refusals 1 to 9; with 7 and 8 the lowest cell that has it.

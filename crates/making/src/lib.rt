@@ -120,7 +120,7 @@ pub fn add(book: &mut [u32], d: u32, e: u32) -> bool
     let edges = count_after(book, d, e, new.rows, 1);
     let faces = count_after(book, d, e, new.rows, 2);
     settle::settle(book, at, used, end);
-    settle::set_head(book, mask + (1 << k), edges, faces, end.0 as u32);
+    settle::set_head(book, mask + (1 << k), edges, faces, end);
     true
 }
 

@@ -1,6 +1,6 @@
 // Words moved within the book: a relation that was written behind the used words goes to its place by key, and free words are set to 0.
 ghost use mathlib.Core.Path.{_≡_};
-ghost use Prim.Native.Nat.{_+_, _-_, _≤_, _<_};
+ghost use Prim.Native.Nat.{_+_, _-_, _^_, _≤_, _<_};
 ghost use lib.ListN.{length, getD};
 ghost use Rattle.rules.specs.Book.{named};
 ghost use Rattle.rules.specs.Steps.{givenBack};
@@ -8,10 +8,12 @@ ghost use Rattle.settle.specs.Settled.{Within, swapped, Mirrored, settle
 use book::Place;
 
 // Exchanges the words at two places.
-fn swap(book: &mut [u32], i: usize, j: usize)
-    requires { ⌜ (i < length (now book)) × (j < length (now book)) ⌝ }
-    ensures { λ r. ⌜ now (book .exit) ≡ swapped i j (now (book .entry)) ⌝ }
+fn swap(book: &mut [u32], one: Place, other: Place)
+    requires { ⌜ (one .0 < length (now book)) × (other .0 < length (now book)) ⌝ }
+    ensures { λ r. ⌜ now (book .exit) ≡ swapped (one .0) (other .0) (now (book .entry)) ⌝ }
 {
+    let i = one.0;
+    let j = other.0;
     let x = book[i];
     let y = book[j];
     book[i] = y;
@@ -27,7 +29,7 @@ fn mirror(book: &mut [u32], from: Place, to: Place)
     let mut j = to.0;
     while i + 1 < j {
         j -= 1;
-        swap(book, i, j);
+        swap(book, Place(i), Place(j));
         i += 1;
     }
 }
@@ -54,14 +56,15 @@ pub fn clear(book: &mut [u32], from: Place)
 }
 
 // Sets words 1 to 4: the relations held, N_1, N_2 and the used length.
-pub fn set_head(book: &mut [u32], mask: u32, edges: u32, faces: u32, used: u32)
-    requires { ⌜ 5 ≤ length (now book) ⌝ }
-    ensures { λ r. ⌜ now (book .exit) ≡ headed mask edges faces used (now (book .entry)) ⌝ }
+pub fn set_head(book: &mut [u32], mask: u32, edges: u32, faces: u32, used: Place)
+    requires { ⌜ (5 ≤ length (now book)) × (used .0 < 2 ^ 32) ⌝ }
+    ensures { λ r. ⌜ now (book .exit) ≡ headed mask edges faces (used .0) (now (book .entry)) ⌝ }
 {
+    let used_words = used.0 as u32;
     book[1] = mask;
     book[2] = edges;
     book[3] = faces;
-    book[4] = used;
+    book[4] = used_words;
 }
 
 // Brings the words from `from` up to `end` down to `to`, and gives the place after them.
@@ -112,8 +115,9 @@ pub fn give_back(book: &mut [u32], head: [u32; 5])
     requires { ⌜ Leaves (now book) (getD head 1 0) ⌝ }
     ensures { λ r. ⌜ now (book .exit) ≡ givenBack head (now (book .entry)) ⌝ }
 {
+    let used = Place(head[4] as usize);
     let end = keep_only(book, head[1]);
     book[0] = head[0];
-    set_head(book, head[1], head[2], head[3], head[4]);
+    set_head(book, head[1], head[2], head[3], used);
     clear(book, end);
 }

@@ -19,61 +19,51 @@ use Rattle.loading.proofs.fill.Lts as lts
 use Rattle.dayfile.proofs.cells.Reads as cells-reads
 use Rattle.dayfile.proofs.dimension.Reads as dimension-reads
 use Rattle.dayfile.proofs.header.Reads as header-reads
-use Rattle.loading.proofs.words_for.Reads as words-for-reads
+use Rattle.loading.proofs.end_of.Reads as end-of-reads
 use Rattle.loading.proofs.write_cells.Reads as write-cells-reads
 use Rattle.loading.proofs.write_head.Reads as write-head-reads
 use Rattle.loading.proofs.write_offsets.Reads as write-offsets-reads
 use Rattle.settle.proofs.clear.Reads as clear-reads
 
--- src/lib.rt:84:9
 header-requires : tie.Need-header-requires
 header-requires c κs = search needs
 
--- src/lib.rt:85:9
 dimension-requires : tie.Need-dimension-requires
 dimension-requires c κs = search needs
 
--- src/lib.rt:86:9
 cells-requires : tie.Need-cells-requires
 cells-requires c κs = search needs
 
--- src/lib.rt:87:9
-words-for-requires : tie.Need-words-for-requires
-words-for-requires c κs = search needs
+end-of-requires : tie.Need-end-of-requires
+end-of-requires c κs = search needs
 
 -- the numbers that were read are the file's
-cells-are : (c : tie.After-words-for) → c .before .cells .result ≡ fileCells (c .before .before .before .before .before .before .args .file .now)
+cells-are : (c : tie.After-end-of) → c .before .cells .result ≡ fileCells (c .before .before .before .before .before .before .args .file .now)
 cells-are c = c .before .cells .ensures ∙ rw (c .before .before .before .header .ensures) (head-cells (c .before .before .before .before .before .before .args .file .now))
 
-sized : (c : tie.After-words-for) → Sized (c .before .before .before .before .before .before .args .file .now) (c .before .before .dimension .result) (c .words-for .result) (length (c .before .before .before .before .before .before .args .book .now))
+sized : (c : tie.After-end-of) → Sized (c .before .before .before .before .before .before .args .file .now) (c .before .before .dimension .result) (c .end-of .result .0) (length (c .before .before .before .before .before .before .args .book .now))
 sized c =
     let s = c .before .before .before .before .before .before in
     let f = s .args .file .now in
     let h = c .before .before .before .header .ensures in
-    let u : c .words-for .result ≡ length (loaded f) = c .words-for .ensures ∙ rw (h, head-cells f, head-dim f) (sym (loaded-length f)) in
+    let u : c .end-of .result .0 ≡ length (loaded f) = c .end-of .ensures ∙ rw (h, head-cells f, head-dim f) (sym (loaded-length f)) in
     record { dims = c .before .before .dimension .ensures ∙ rw h (head-dim f); size = u; room = omega (arith, s .pre) }
 
--- src/lib.rt:88:5
 write-head-requires : tie.Need-write-head-requires
 write-head-requires c κs = sized (c .before)
 
--- src/lib.rt:89:5
 write-offsets-requires : tie.Need-write-offsets-requires
 write-offsets-requires c κs = (rw (c .before .before .before .write-head .kept .1 .0) (sized (c .before .before .before .before .before)), cells-are (c .before .before .before .before .before))
 
--- src/lib.rt:90:5
 write-cells-requires : tie.Need-write-cells-requires
 write-cells-requires c κs = (rw (c .before .before .before .write-offsets .kept .1 .0, c .before .before .before .before .before .before .before .write-head .kept .1 .0) (sized (c .before .before .before .before .before .before .before .before .before)), cells-are (c .before .before .before .before .before .before .before .before .before))
 
--- src/lib.rt:91:5
 clear-requires : tie.Need-clear-requires
 clear-requires c κs = search needs
 
--- src/lib.rt:80:1
 same-length : tie.Need-same-length
 same-length c = search needs
 
--- src/lib.rt:80:1
 returns : tie.Need-returns
 returns c = let s = c .before .before .before .before .before .before .before .before .before .before .before .before .before .before .before .before .before .before .before .before .before .before in
     let w = c .before .before .before .before .before .before .before .before .before .before .before .before .before .before .before .before in
@@ -95,7 +85,7 @@ fill-spec =
     header-requires
     dimension-requires
     cells-requires
-    words-for-requires
+    end-of-requires
     write-head-requires
     write-offsets-requires
     write-cells-requires

@@ -11,6 +11,7 @@ use Rattle.rules.specs.Calls.{loaded}
 use Rattle.rules.proofs.Fields.{dim-below}
 use Rattle.rules.proofs.Spliced.{Splicing, splicing-none, splicing-length, splicing-more}
 use Rattle.rules.proofs.LoadedWords.{row-size}
+use Rattle.dayfile.proofs.Numbers.{number-at}
 use Rattle.loading.specs.Sizes.{Sized, vertexAt}
 use Rattle.loading.proofs.Sizes.{wanted-length, cell-inside, cell-word}
 use Rattle.loading.proofs.write_cell.Statement.{statement}
@@ -20,29 +21,25 @@ use Rattle.loading.proofs.write_cell.Lts as lts
 use Rattle.dayfile.proofs.cell.Reads as cell-reads
 
 abbrev Inv-loop : tie.InvT-loop
-Inv-loop file book₀ dim used vertices start n k₀ book k =
+Inv-loop file book₀ dim vertices start n k₀ book k =
     Splicing (filled (length book₀) (loaded file)) book₀ start (start + k) book × (k ≤ n)
 
 abbrev μ-loop : tie.MeasureT-loop
-μ-loop file book₀ dim used vertices start n k₀ book k = n - k
+μ-loop file book₀ dim vertices start n k₀ book k = n - k
 
--- src/lib.rt:53:9
 cell-requires : tie.Need-cell-requires Inv-loop μ-loop
 cell-requires c κs = tt
 
--- src/lib.rt:56:13
 add-n : tie.Need-add-n Inv-loop μ-loop
 add-n c = omega (arith, dim-below (c .before .before .before .before .args .file .now), c .before .before .before .before .pre .0 .dims)
 
--- src/lib.rt:58:5
 loop-holds : tie.Need-loop-holds Inv-loop μ-loop
 loop-holds c = let s = c .before .before .before .before in
     let n = cell-inside _ _ _ _ (s .pre .0) (s .args .c .0) (s .args .at .0) (s .pre .1 .0) (s .pre .1 .1) 0 (omega arith) in
     (rw (add-zero (s .args .at .0)) (splicing-none _ _ (s .args .at .0) (omega (arith, s .pre .0 .room)) (wanted-length _ _ _ _ (s .pre .0))), omega arith)
 
--- src/lib.rt:59:27
 -- the place of the vertex that a turn writes lies in the book, and the loaded words have that vertex there
-inside : (c : tie.In-loop Inv-loop μ-loop) → c .before .before .before .before .before .before .args .at .0 + c .before .loop .k < c .before .before .before .before .before .before .args .used
+inside : (c : tie.In-loop Inv-loop μ-loop) → c .before .before .before .before .before .before .args .at .0 + c .before .loop .k < c .before .before .before .before .before .before .args .used .0
 inside c =
     let s = c .before .before .before .before .before .before in
     cell-inside _ _ _ _ (s .pre .0) (s .args .c .0) (s .args .at .0) (s .pre .1 .0) (s .pre .1 .1) (c .before .loop .k) (c .loop-test .taken)
@@ -50,46 +47,38 @@ inside c =
 mul-book : tie.Need-mul-book Inv-loop μ-loop
 mul-book c = omega arith
 
--- src/lib.rt:59:27
-array-read-book : tie.Need-array-read-book Inv-loop μ-loop
-array-read-book c = omega (arith, dim-below (c .before .before .before .before .before .before .args .file .now), c .before .before .before .before .before .before .pre .0 .dims)
+element-copy-out-book : tie.Need-element-copy-out-book Inv-loop μ-loop
+element-copy-out-book c = omega (arith, dim-below (c .before .before .before .before .before .before .args .file .now), c .before .before .before .before .before .before .pre .0 .dims)
 
--- src/lib.rt:59:14
 add-book : tie.Need-add-book Inv-loop μ-loop
 add-book c = omega (arith, inside c, c .before .before .before .before .before .before .pre .0 .room, c .before .before .before .before .before .before .good)
 
--- src/lib.rt:59:9
 mul-book-2 : tie.Need-mul-book-2 Inv-loop μ-loop
 mul-book-2 c = omega (arith, inside c, c .before .before .before .before .before .before .pre .0 .room, c .before .before .before .before .before .before .good)
 
--- src/lib.rt:59:9
 slice-write-book : tie.Need-slice-write-book Inv-loop μ-loop
 slice-write-book c = omega (arith, inside c, c .before .before .before .before .before .before .pre .0 .room, splicing-length _ _ _ _ _ (c .before .loop .inv .0))
 
--- src/lib.rt:60:9
 add-k : tie.Need-add-k Inv-loop μ-loop
 add-k c = omega arith
 
--- src/lib.rt:58:5
 loop-less : tie.Need-loop-less Inv-loop μ-loop
 loop-less c = omega arith
 
--- src/lib.rt:58:5
 loop-again : tie.Need-loop-again Inv-loop μ-loop
 loop-again c = let s = c .before .before .before .before .before .before in
     let l = c .before .loop in
     let k : l .k < s .args .dim + 1 = c .loop-test .taken in
-    let v : getD (c .before .before .before .cell .result .vertices) (l .k) 0 ≡ getD (filled (length (s .args .book .now)) (loaded (s .args .file .now))) (s .args .at .0 + l .k) 0
-    = ap (λ (x : List ℕ). getD x (l .k) 0) (c .before .before .before .cell .ensures)
+    let v : getD (c .before .before .before .cell .result .vertices) (l .k) (record { 0 = 0 }) .0 ≡ getD (filled (length (s .args .book .now)) (loaded (s .args .file .now))) (s .args .at .0 + l .k) 0
+    = sym (number-at (c .before .before .before .cell .result .vertices) (l .k))
+    ∙ ap (λ (x : List ℕ). getD x (l .k) 0) (c .before .before .before .cell .ensures)
     ∙ List·getD-append (sorted (fileCell (s .args .file .now) (s .args .c .0))) _ 0 (l .k) (rw (row-size (s .args .file .now) (s .args .c .0)) (omega (arith, s .pre .0 .dims)))
     ∙ cell-word _ _ _ _ (s .pre .0) (s .args .c .0) (s .args .at .0) (s .pre .1 .0) (s .pre .1 .1) (l .k) k in
     (rw (← add-assoc (s .args .at .0) (l .k) 1) (splicing-more _ _ _ _ _ (l .inv .0) _ (omega (arith, inside c, s .pre .0 .room)) v), omega arith)
 
--- src/lib.rt:49:1
 same-length : tie.Need-same-length Inv-loop μ-loop
 same-length c = splicing-length _ _ _ _ _ (c .before .loop .inv .0)
 
--- src/lib.rt:49:1
 returns : tie.Need-returns Inv-loop μ-loop
 returns c = let l = c .before .loop in
     let s = c .before .before .before .before .before .before in
@@ -106,7 +95,7 @@ write-cell-spec =
     add-n
     loop-holds
     mul-book
-    array-read-book
+    element-copy-out-book
     add-book
     mul-book-2
     slice-write-book

@@ -26,25 +26,21 @@ Inv-loop file book₀ dim cells used size at₀ c₀ book at c =
 abbrev μ-loop : tie.MeasureT-loop
 μ-loop file book₀ dim cells used size at₀ c₀ book at c = cells - c
 
--- src/lib.rt:69:16
 add-size : tie.Need-add-size Inv-loop μ-loop
 add-size c = omega arith
 
--- src/lib.rt:70:18
 add-at : tie.Need-add-at Inv-loop μ-loop
 add-at c = omega arith
 
--- src/lib.rt:72:5
 loop-holds : tie.Need-loop-holds Inv-loop μ-loop
 loop-holds c = let s = c .before .before in
     (splicing-none _ _ (6 + s .args .cells) (omega (arith, used-is _ _ _ _ (s .pre .0), s .pre .0 .room, s .pre .1)) (wanted-length _ _ _ _ (s .pre .0)), (omega arith, rw (mul-zero (s .args .dim + 1)) (omega arith)))
 
--- src/lib.rt:73:9
 -- the book in a turn is as long as at first, and has room for the cell
-sized : (c : tie.In-loop Inv-loop μ-loop) → Sized (c .before .before .before .before .args .file .now) (c .before .before .before .before .args .dim) (c .before .before .before .before .args .used) (length (c .before .loop .book))
+sized : (c : tie.In-loop Inv-loop μ-loop) → Sized (c .before .before .before .before .args .file .now) (c .before .before .before .before .args .dim) (c .before .before .before .before .args .used .0) (length (c .before .loop .book))
 sized c = rw (splicing-length _ _ _ _ _ (c .before .loop .inv .0)) (c .before .before .before .before .pre .0)
 
-room : (c : tie.In-loop Inv-loop μ-loop) → c .before .loop .at + (c .before .before .before .before .args .dim + 1) ≤ c .before .before .before .before .args .used
+room : (c : tie.In-loop Inv-loop μ-loop) → c .before .loop .at + (c .before .before .before .before .args .dim + 1) ≤ c .before .before .before .before .args .used .0
 room c =
     let s = c .before .before .before .before in
     let l = c .before .loop in
@@ -59,19 +55,15 @@ write-cell-requires c κs = let s = c .before .before .before .before .before in
     let t = c .before .loop-test .taken in
     (sized (c .before), (omega (arith, s .pre .1), unfold vertexAt in rw (← s .pre .0 .dims) (omega (arith, l .inv .1 .1, s .pre .1))))
 
--- src/lib.rt:74:9
 add-at-2 : tie.Need-add-at-2 Inv-loop μ-loop
 add-at-2 c = omega (arith, room (c .before .before .before .before), c .before .before .before .before .before .before .before .before .pre .0 .room, c .before .before .before .before .before .before .before .before .good)
 
--- src/lib.rt:75:9
 add-c : tie.Need-add-c Inv-loop μ-loop
 add-c c = omega arith
 
--- src/lib.rt:72:5
 loop-less : tie.Need-loop-less Inv-loop μ-loop
 loop-less c = omega arith
 
--- src/lib.rt:72:5
 loop-again : tie.Need-loop-again Inv-loop μ-loop
 loop-again c = let s = c .before .before .before .before .before .before .before .before in
     let l = c .before .before .before .before .before .loop in
@@ -79,17 +71,15 @@ loop-again c = let s = c .before .before .before .before .before .before .before
     let n = splicing-length _ _ _ _ _ (l .inv .0) in
     (splicing-on _ _ _ _ _ (l .inv .0) _ _ (omega arith) (omega (arith, room (c .before .before .before .before), s .pre .0 .room)) (rw n at (c .before .before .write-cell .ensures)), (omega arith, rw (add-one (l .c), mul-suc) (omega (arith, l .inv .1 .1))))
 
--- src/lib.rt:65:1
 same-length : tie.Need-same-length Inv-loop μ-loop
 same-length c = splicing-length _ _ _ _ _ (c .before .loop .inv .0)
 
--- src/lib.rt:65:1
 returns : tie.Need-returns Inv-loop μ-loop
 returns c = let s = c .before .before .before .before in
     let l = c .before .loop in
     let e : l .c ≡ s .args .cells = omega (arith, l .inv .1 .0, c .loop-test .left) in
     let m : fileCells (s .args .file .now) * (fileDim (s .args .file .now) + 1) ≡ (s .args .dim + 1) * l .c = rw (e, s .pre .0 .dims, s .pre .1) (mul-comm (fileCells (s .args .file .now)) (fileDim (s .args .file .now) + 1)) in
-    let u : l .at ≡ s .args .used = omega (arith, used-is _ _ _ _ (s .pre .0), l .inv .1 .1, s .pre .1) in
+    let u : l .at ≡ s .args .used .0 = omega (arith, used-is _ _ _ _ (s .pre .0), l .inv .1 .1, s .pre .1) in
     rw u at (l .inv .0 .words)
 
 pub write-cells-spec : {M : Type 1} → statement M

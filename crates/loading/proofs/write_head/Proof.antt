@@ -19,57 +19,46 @@ use Rattle.loading.proofs.write_head.Reads as reads
 use Rattle.loading.proofs.write_head.Lts as lts
 use Rattle.dayfile.proofs.header.Reads as header-reads
 
--- src/lib.rt:26:15
 header-requires : tie.Need-header-requires
 header-requires c κs = search needs
 
--- src/lib.rt:26:5
 slice-write-book : tie.Need-slice-write-book
 slice-write-book c = omega (arith, used-is _ _ _ _ (c .before .before .before .pre), c .before .before .before .pre .room)
 
--- src/lib.rt:27:21
 mul-book : tie.Need-mul-book
 mul-book c = omega (arith, dim-below (c .before .before .before .args .file .now), c .before .before .before .pre .dims)
 
--- src/lib.rt:27:15
 shl-book : tie.Need-shl-book
 shl-book c = omega (arith, dim-below (c .before .before .before .args .file .now), c .before .before .before .pre .dims)
 
--- src/lib.rt:27:5
 slice-write-book-2 : tie.Need-slice-write-book-2
 slice-write-book-2 c = simp length-set (omega (arith, used-is _ _ _ _ (c .before .before .before .pre), c .before .before .before .pre .room))
 
--- src/lib.rt:28:5
 slice-write-book-3 : tie.Need-slice-write-book-3
 slice-write-book-3 c = simp length-set (omega (arith, used-is _ _ _ _ (c .before .before .before .pre), c .before .before .before .pre .room))
 
--- src/lib.rt:29:5
 slice-write-book-4 : tie.Need-slice-write-book-4
 slice-write-book-4 c = simp length-set (omega (arith, used-is _ _ _ _ (c .before .before .before .pre), c .before .before .before .pre .room))
 
--- src/lib.rt:30:15
 cast-book : tie.Need-cast-book
-cast-book c = omega (arith, used-is _ _ _ _ (c .before .before .before .pre), cells-below (c .before .before .before .args .file .now), vertices-below (c .before .before .before .args .file .now) (fileCells (c .before .before .before .args .file .now)))
+cast-book c = omega (arith, used-is _ _ _ _ (c .before .before .before .before .pre), cells-below (c .before .before .before .before .args .file .now), vertices-below (c .before .before .before .before .args .file .now) (fileCells (c .before .before .before .before .args .file .now)))
 
--- src/lib.rt:30:5
 slice-write-book-5 : tie.Need-slice-write-book-5
-slice-write-book-5 c = simp length-set (omega (arith, used-is _ _ _ _ (c .before .before .before .pre), c .before .before .before .pre .room))
+slice-write-book-5 c = simp length-set (omega (arith, used-is _ _ _ _ (c .before .before .before .before .pre), c .before .before .before .before .pre .room))
 
--- src/lib.rt:22:1
 same-length : tie.Need-same-length
 same-length c = search needs
 
--- src/lib.rt:22:1
 returns : tie.Need-returns
 returns c =
-    let s = c .before .before .before in
+    let s = c .before .before .before .before in
     let f = s .args .file .now in
     let h = loaded-head f in
     let w = word _ _ _ _ (s .pre) in
     let l : 5 ≤ length (s .args .book .now) = omega (arith, used-is _ _ _ _ (s .pre), s .pre .room) in
     let d : s .args .dim < 4 = omega (arith, dim-below f, s .pre .dims) in
     let a = splicing-none _ (s .args .book .now) 0 (omega arith) (wanted-length _ _ _ _ (s .pre)) in
-    let b = splicing-more _ _ _ _ _ a _ (omega arith) (c .header .ensures ∙ w 0 _ (h .0)) in
+    let b = splicing-more _ _ _ _ _ a _ (omega arith) (c .before .header .ensures ∙ w 0 _ (h .0)) in
     let e = splicing-more _ _ _ _ _ b _ (omega arith) (power (s .args .dim) d ∙ ap (λ (x : ℕ). 2 ^ key x 0) (s .pre .dims) ∙ w 1 _ (h .1)) in
     let g = splicing-more _ _ _ _ _ e 0 (omega arith) (w 2 _ (h .2)) in
     let i = splicing-more _ _ _ _ _ g 0 (omega arith) (w 3 _ (h .3)) in

@@ -18,24 +18,21 @@ use Rattle.loading.proofs.write_offsets.Reads as reads
 use Rattle.loading.proofs.write_offsets.Lts as lts
 
 abbrev Inv-loop : tie.InvT-loop
-Inv-loop file book₀ dim cells used size offset₀ i₀ book offset i =
+Inv-loop file book₀ dim cells size offset₀ i₀ book offset i =
     Splicing (filled (length book₀) (loaded file)) book₀ 5 (5 + i) book × ((i ≤ cells + 1) × (offset ≡ i * size))
 
 abbrev μ-loop : tie.MeasureT-loop
-μ-loop file book₀ dim cells used size offset₀ i₀ book offset i = cells + 1 - i
+μ-loop file book₀ dim cells size offset₀ i₀ book offset i = cells + 1 - i
 
--- src/lib.rt:38:16
 add-size : tie.Need-add-size Inv-loop μ-loop
 add-size c = omega (arith, dim-below (c .args .file .now), c .pre .0 .dims)
 
--- src/lib.rt:41:5
 loop-holds : tie.Need-loop-holds Inv-loop μ-loop
 loop-holds c = let a = used-is _ _ _ _ (c .pre .0) in
     (splicing-none _ _ 5 (omega (arith, c .pre .0 .room)) (wanted-length _ _ _ _ (c .pre .0)), (omega arith, sym (zero-mul (c .args .dim + 1))))
 
--- src/lib.rt:42:14
 -- what a turn writes lies before the used length, and is small
-turn : (c : tie.In-loop Inv-loop μ-loop) → (5 + c .before .loop .i < c .before .before .args .used) × (c .before .loop .offset ≤ 8192 * 4)
+turn : (c : tie.In-loop Inv-loop μ-loop) → (5 + c .before .loop .i < c .before .before .args .used .0) × (c .before .loop .offset ≤ 8192 * 4)
 turn c =
     let s = c .before .before in
     let l = c .before .loop in
@@ -49,27 +46,21 @@ turn c =
 add-book : tie.Need-add-book Inv-loop μ-loop
 add-book c = omega (arith, turn c, c .before .before .pre .0 .room, c .before .before .good)
 
--- src/lib.rt:42:9
 mul-book : tie.Need-mul-book Inv-loop μ-loop
 mul-book c = omega (arith, turn c, c .before .before .pre .0 .room, c .before .before .good)
 
--- src/lib.rt:42:9
 slice-write-book : tie.Need-slice-write-book Inv-loop μ-loop
 slice-write-book c = omega (arith, turn c, c .before .before .pre .0 .room, splicing-length _ _ _ _ _ (c .before .loop .inv .0))
 
--- src/lib.rt:43:9
 add-offset : tie.Need-add-offset Inv-loop μ-loop
 add-offset c = omega (arith, turn c, dim-below (c .before .before .args .file .now), c .before .before .pre .0 .dims)
 
--- src/lib.rt:44:9
 add-i : tie.Need-add-i Inv-loop μ-loop
 add-i c = omega arith
 
--- src/lib.rt:41:5
 loop-less : tie.Need-loop-less Inv-loop μ-loop
 loop-less c = omega arith
 
--- src/lib.rt:41:5
 loop-again : tie.Need-loop-again Inv-loop μ-loop
 loop-again c = let s = c .before .before in
     let l = c .before .loop in
@@ -78,11 +69,9 @@ loop-again c = let s = c .before .before in
     = l .inv .1 .1 ∙ rw (s .pre .0 .dims) (word _ _ _ _ (s .pre .0) (5 + l .i) _ (loaded-offset (s .args .file .now) (l .i) (omega (arith, s .pre .1)))) in
     (rw (← add-assoc 5 (l .i) 1) (splicing-more _ _ _ _ _ (l .inv .0) _ (omega (arith, turn c, s .pre .0 .room)) o), (omega arith, rw (l .inv .1 .1, add-one (l .i), suc-mul)))
 
--- src/lib.rt:34:1
 same-length : tie.Need-same-length Inv-loop μ-loop
 same-length c = splicing-length _ _ _ _ _ (c .before .loop .inv .0)
 
--- src/lib.rt:34:1
 returns : tie.Need-returns Inv-loop μ-loop
 returns c = let l = c .before .loop in
     let s = c .before .before in

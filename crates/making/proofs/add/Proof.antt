@@ -50,19 +50,19 @@ shl-set-head c = omega (arith, key-below _ _ _ (c .before .before .before .befor
 add-set-head : tie.Need-add-set-head
 add-set-head c = record { fits = mask-fits _ _ _ (c .before .before .before .before .before .before .before .before .before .before .before .before .before .before .before .before .before .before .before .before .before .before .before .before .pre) _ _ (c .before .before .before .before .before .before .before .before .before .before .before .before .before .before .before .before .before .before .word .ensures) (c .before .before .before .before .before .before .before .before .before .before .before .before .before .before .before .before .before .before .before .before .before .before .key .ensures) }
 
-cast-set-head : tie.Need-cast-set-head
-cast-set-head c = record { fits = end-fits _ _ _ (c .before .before .before .before .before .before .before .before .before .before .before .before .before .before .before .before .before .before .before .before .before .before .before .before .before .pre) _ _ _ _ (c .before .before .before .before .before .before .before .before .before .before .before .before .before .before .before .before .before .word2 .ensures) (c .before .before .before .before .before .before .before .before .before .before .before .before .before .before .before .append .ensures) (c .before .before .before .before .before .before .before .before .before .before .before .before .before .before .before .append .kept .0) }
-
 set-head-requires : tie.Need-set-head-requires
-set-head-requires c κs = omega (arith, c .before .before .before .before .settle .kept .0, c .before .before .before .before .before .before .before .before .before .before .before .before .before .before .before .append .kept .0, framed _ (c .before .before .before .before .before .before .before .before .before .before .before .before .before .before .before .before .before .before .before .before .before .before .before .before .before .pre .frame) .long)
+set-head-requires c κs = (
+  omega (arith, c .before .before .before .settle .kept .0, c .before .before .before .before .before .before .before .before .before .before .before .before .before .before .append .kept .0, framed _ (c .before .before .before .before .before .before .before .before .before .before .before .before .before .before .before .before .before .before .before .before .before .before .before .before .pre .frame) .long),
+  end-fits _ _ _ (c .before .before .before .before .before .before .before .before .before .before .before .before .before .before .before .before .before .before .before .before .before .before .before .before .pre) _ _ _ _ (c .before .before .before .before .before .before .before .before .before .before .before .before .before .before .before .before .word2 .ensures) (c .before .before .before .before .before .before .before .before .before .before .before .before .before .before .append .ensures) (c .before .before .before .before .before .before .before .before .before .before .before .before .before .before .append .kept .0),
+)
 
 same-length-2 : tie.Need-same-length-2
 same-length-2 c = search needs
 
 returns-2 : tie.Need-returns-2
 returns-2 c =
-    grows _ _ _ (c .before .before .before .before .before .before .before .before .before .before .before .before .before .before .before .before .before .before .before .before .before .before .before .before .before .before .before .before .pre) _ _ _ _ (c .before .before .before .before .before .before .before .before .before .before .before .before .before .before .before .before .before .before .before .before .word2 .ensures) (c .before .before .before .before .before .before .before .before .before .before .before .before .before .before .before .before .before .before .append .ensures) (c .before .before .before .before .before .before .before .before .before .before .before .before .before .before .before .before .before .before .append .kept .0) (c .before .before .before .before .before .before .before .before .before .before .before .before .before .if1 .left) _ (c .before .before .before .before .before .before .before .before .before .before .before .before .before .before .before .before .before .before .before .before .before .before .before .before .place-of .ensures ∙ ap (place (c .before .before .before .before .before .before .before .before .before .before .before .before .before .before .before .before .before .before .before .before .before .before .before .before .before .before .before .before .args .book .now)) (c .before .before .before .before .before .before .before .before .before .before .before .before .before .before .before .before .before .before .before .before .before .before .before .before .before .before .key .ensures))
-    _ _ _ (mask-is _ _ _ (c .before .before .before .before .before .before .before .before .before .before .before .before .before .before .before .before .before .before .before .before .before .before .before .before .before .before .before .before .pre) _ _ (c .before .before .before .before .before .before .before .before .before .before .before .before .before .before .before .before .before .before .before .before .before .before .word .ensures) (c .before .before .before .before .before .before .before .before .before .before .before .before .before .before .before .before .before .before .before .before .before .before .before .before .before .before .key .ensures)) (c .before .before .before .before .before .before .before .before .before .before .before .count-after .ensures) (c .before .before .before .before .before .before .before .before .before .count-after2 .ensures) _ _ (c .before .before .before .before .before .before .before .settle .ensures) (c .before .before .set-head .ensures)
+    grows _ _ _ (c .before .before .before .before .before .before .before .before .before .before .before .before .before .before .before .before .before .before .before .before .before .before .before .before .before .before .before .pre) _ _ _ _ (c .before .before .before .before .before .before .before .before .before .before .before .before .before .before .before .before .before .before .before .word2 .ensures) (c .before .before .before .before .before .before .before .before .before .before .before .before .before .before .before .before .before .append .ensures) (c .before .before .before .before .before .before .before .before .before .before .before .before .before .before .before .before .before .append .kept .0) (c .before .before .before .before .before .before .before .before .before .before .before .before .if1 .left) _ (c .before .before .before .before .before .before .before .before .before .before .before .before .before .before .before .before .before .before .before .before .before .before .before .place-of .ensures ∙ ap (place (c .before .before .before .before .before .before .before .before .before .before .before .before .before .before .before .before .before .before .before .before .before .before .before .before .before .before .before .args .book .now)) (c .before .before .before .before .before .before .before .before .before .before .before .before .before .before .before .before .before .before .before .before .before .before .before .before .before .key .ensures))
+    _ _ _ (mask-is _ _ _ (c .before .before .before .before .before .before .before .before .before .before .before .before .before .before .before .before .before .before .before .before .before .before .before .before .before .before .before .pre) _ _ (c .before .before .before .before .before .before .before .before .before .before .before .before .before .before .before .before .before .before .before .before .before .word .ensures) (c .before .before .before .before .before .before .before .before .before .before .before .before .before .before .before .before .before .before .before .before .before .before .before .before .before .key .ensures)) (c .before .before .before .before .before .before .before .before .before .before .count-after .ensures) (c .before .before .before .before .before .before .before .before .count-after2 .ensures) _ _ (c .before .before .before .before .before .before .settle .ensures) (c .before .before .set-head .ensures)
 
 pub add-spec : {M : Type 1} → statement M
 add-spec =
@@ -82,7 +82,6 @@ add-spec =
     settle-requires
     shl-set-head
     add-set-head
-    cast-set-head
     set-head-requires
     same-length-2
     returns-2)

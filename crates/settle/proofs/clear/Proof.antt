@@ -14,35 +14,27 @@ Inv-loop book₀ i₀ book i = Clearing book₀ i₀ i book
 abbrev μ-loop : tie.MeasureT-loop
 μ-loop book₀ i₀ book i = length book - i
 
--- src/lib.rt:48:5
 loop-holds : tie.Need-loop-holds Inv-loop μ-loop
 loop-holds c = clearing-none _ _
 
--- src/lib.rt:49:9
 mul-book : tie.Need-mul-book Inv-loop μ-loop
 mul-book c = omega arith
 
--- src/lib.rt:49:9
 slice-write-book : tie.Need-slice-write-book Inv-loop μ-loop
 slice-write-book c = omega arith
 
--- src/lib.rt:50:9
 add-i : tie.Need-add-i Inv-loop μ-loop
 add-i c = omega arith
 
--- src/lib.rt:48:5
 loop-less : tie.Need-loop-less Inv-loop μ-loop
 loop-less c = simp length-set (omega arith)
 
--- src/lib.rt:48:5
 loop-again : tie.Need-loop-again Inv-loop μ-loop
 loop-again c = clearing-more _ _ _ _ (c .before .loop .inv) (c .loop-test .taken)
 
--- src/lib.rt:44:1
 same-length : tie.Need-same-length Inv-loop μ-loop
 same-length c = c .before .loop .inv .size
 
--- src/lib.rt:44:1
 returns : tie.Need-returns Inv-loop μ-loop
 returns c = clearing-all _ _ _ _ (c .before .loop .inv) (c .loop-test .left)
 

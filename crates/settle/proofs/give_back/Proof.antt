@@ -2,6 +2,8 @@
 use mathlib.Core.Path.{_≡_, refl, _∙_}
 use native.Mathlib.Omega.{arith}
 use lib.ListN.{length, getD, length-set}
+use mir.Syntax.{w32}
+use mir.Val.{Fits}
 use Rattle.settle.proofs.Placed.{headed-head}
 use Rattle.settle.proofs.Lowering.{given-back}
 use borrow.Author.Needs.{needs}
@@ -13,51 +15,45 @@ use Rattle.settle.proofs.clear.Reads as clear-reads
 use Rattle.settle.proofs.keep_only.Reads as keep-only-reads
 use Rattle.settle.proofs.set_head.Reads as set-head-reads
 
--- src/lib.rt:115:31
+array-read-t8 : tie.Need-array-read-t8
+array-read-t8 c = search needs
+
+cast-t9 : tie.Need-cast-t9
+cast-t9 c = search needs
+
 array-read-keep-only : tie.Need-array-read-keep-only
 array-read-keep-only c = search needs
 
--- src/lib.rt:115:9
 keep-only-requires : tie.Need-keep-only-requires
 keep-only-requires c κs = search needs
 
--- src/lib.rt:116:15
 array-read-book : tie.Need-array-read-book
 array-read-book c = search needs
 
--- src/lib.rt:116:5
 slice-write-book : tie.Need-slice-write-book
 slice-write-book c = search needs
 
--- src/lib.rt:117:20
 array-read-set-head : tie.Need-array-read-set-head
 array-read-set-head c = search needs
 
--- src/lib.rt:117:29
 array-read-set-head-2 : tie.Need-array-read-set-head-2
 array-read-set-head-2 c = search needs
 
--- src/lib.rt:117:38
 array-read-set-head-3 : tie.Need-array-read-set-head-3
 array-read-set-head-3 c = search needs
 
--- src/lib.rt:117:47
-array-read-set-head-4 : tie.Need-array-read-set-head-4
-array-read-set-head-4 c = search needs
-
--- src/lib.rt:117:5
 set-head-requires : tie.Need-set-head-requires
-set-head-requires c κs = let k = c .before .before .before .keep-only .ensures in simp length-set (omega (arith, k .size, k .place, k .fits))
+set-head-requires c κs =
+    let k = c .before .before .before .keep-only .ensures in
+    let f : Fits w32 (getD (c .before .before .before .before .before .before .args .t2) 4 0) = search needs in
+    (simp length-set (omega (arith, k .size, k .place, k .fits)), f .fits)
 
--- src/lib.rt:118:5
 clear-requires : tie.Need-clear-requires
 clear-requires c κs = search needs
 
--- src/lib.rt:111:1
 same-length : tie.Need-same-length
 same-length c = c .before .before .clear .kept .0 ∙ c .before .before .before .before .before .before .set-head .kept .0 ∙ length-set (c .before .before .before .before .before .before .before .before .before .before .keep-only .last .0) 0 (getD (c .before .before .before .before .before .before .before .before .before .before .before .before .before .args .t2) 0 0) ∙ c .before .before .before .before .before .before .before .before .before .before .keep-only .kept .0
 
--- src/lib.rt:111:1
 returns : tie.Need-returns
 returns c = let s = c .before .before .before .before .before .before .before .before .before .before .before .before .before in
     let k = c .before .before .before .before .before .before .before .before .before .before .keep-only .ensures in
@@ -69,6 +65,8 @@ pub give-back-spec : {M : Type 1} → statement M
 give-back-spec =
     tie.close
     (tie.spec
+    array-read-t8
+    cast-t9
     array-read-keep-only
     keep-only-requires
     array-read-book
@@ -76,7 +74,6 @@ give-back-spec =
     array-read-set-head
     array-read-set-head-2
     array-read-set-head-3
-    array-read-set-head-4
     set-head-requires
     clear-requires
     same-length

@@ -7,15 +7,12 @@ use Rattle.settle.proofs.has_power.Tie as tie
 use Rattle.settle.proofs.has_power.Reads as reads
 use Rattle.settle.proofs.has_power.Lts as lts
 
--- src/lib.rt:89:14
 cast-result : tie.Need-cast-result
 cast-result c = search needs
 
--- src/lib.rt:89:6
 shr-result : tie.Need-shr-result
 shr-result c = search needs
 
--- src/lib.rt:85:1
 returns : tie.Need-returns
 unfolding named
 returns c = refl

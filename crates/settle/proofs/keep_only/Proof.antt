@@ -29,39 +29,30 @@ abbrev μ-loop : tie.MeasureT-loop
 at-place : (ws at : List ℕ) → at ≡ map (place ws) (upTo 17) → (k : ℕ) → k < 17 → getD at k 0 ≡ place ws k
 at-place ws at e k l = ap (λ (a : List ℕ). getD a k 0) e ∙ getD-rows (place ws) 17 k 0 l
 
--- src/lib.rt:97:9
 places-of-requires : tie.Need-places-of-requires Inv-loop μ-loop
 places-of-requires c κs = tt
 
--- src/lib.rt:101:5
 loop-holds : tie.Need-loop-holds Inv-loop μ-loop
 loop-holds c = (c .before .places-of .ensures, (omega arith, keeping-none _ _ (c .before .before .before .before .pre)))
 
--- src/lib.rt:102:12
 has-power-requires : tie.Need-has-power-requires Inv-loop μ-loop
 has-power-requires c κs = omega arith
 
--- src/lib.rt:103:40
 mul-t14 : tie.Need-mul-t14 Inv-loop μ-loop
 mul-t14 c = omega arith
 
--- src/lib.rt:103:40
 array-read-t17 : tie.Need-array-read-t17 Inv-loop μ-loop
 array-read-t17 c = omega arith
 
--- src/lib.rt:103:57
 add-t19 : tie.Need-add-t19 Inv-loop μ-loop
 add-t19 c = omega arith
 
--- src/lib.rt:103:54
 mul-t20 : tie.Need-mul-t20 Inv-loop μ-loop
 mul-t20 c = omega arith
 
--- src/lib.rt:103:54
 array-read-t23 : tie.Need-array-read-t23 Inv-loop μ-loop
 array-read-t23 c = omega arith
 
--- src/lib.rt:103:18
 move-down-requires : tie.Need-move-down-requires Inv-loop μ-loop
 move-down-requires c κs = let l = c .before .before .before .before .loop in
     let s = c .before .before .before .before .before .before .before .before .before in
@@ -73,15 +64,12 @@ move-down-requires c κs = let l = c .before .before .before .before .loop in
     let e = place-rises (s .args .book .now) (l .k + 1) 16 (omega arith) in
     (record { order = omega arith; inside = omega (arith, f .ends, f .fits, l .inv .1 .1 .size) }, omega (arith, l .inv .1 .1 .low))
 
--- src/lib.rt:105:9
 add-k : tie.Need-add-k Inv-loop μ-loop
 add-k c = omega arith
 
--- src/lib.rt:101:5
 loop-less : tie.Need-loop-less Inv-loop μ-loop
 loop-less c = omega arith
 
--- src/lib.rt:101:5
 loop-again : tie.Need-loop-again Inv-loop μ-loop
 loop-again c = let l = c .before .before .before .loop in
     let s = c .before .before .before .before .before .before .before .before in
@@ -101,11 +89,9 @@ loop-again c = let l = c .before .before .before .loop in
       ),
     )
 
--- src/lib.rt:93:1
 same-length : tie.Need-same-length Inv-loop μ-loop
 same-length c = c .before .loop .inv .1 .1 .size
 
--- src/lib.rt:93:1
 returns : tie.Need-returns Inv-loop μ-loop
 returns c = let l = c .before .loop in
     let e : l .k ≡ 16 = omega (arith, l .inv .1 .0, c .loop-test .left) in

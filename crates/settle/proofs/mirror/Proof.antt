@@ -15,41 +15,32 @@ Inv-loop book₀ i₀ j₀ book i j = Turning book₀ i₀ j₀ i j book
 abbrev μ-loop : tie.MeasureT-loop
 μ-loop book₀ i₀ j₀ book i j = j - i
 
--- src/lib.rt:26:5
 loop-holds : tie.Need-loop-holds Inv-loop μ-loop
 loop-holds c = turning-none _ _ _ (c .before .pre .order)
 
--- src/lib.rt:26:11
 add-loop : tie.Need-add-loop Inv-loop μ-loop
 add-loop c = omega arith
 
--- src/lib.rt:27:9
 sub-j : tie.Need-sub-j Inv-loop μ-loop
 sub-j c = omega arith
 
--- src/lib.rt:28:9
 swap-requires : tie.Need-swap-requires Inv-loop μ-loop
 swap-requires c κs = omega arith
 
--- src/lib.rt:29:9
 add-i : tie.Need-add-i Inv-loop μ-loop
 add-i c = omega arith
 
--- src/lib.rt:26:5
 loop-less : tie.Need-loop-less Inv-loop μ-loop
 loop-less c = omega arith
 
--- src/lib.rt:26:5
 loop-again : tie.Need-loop-again Inv-loop μ-loop
 loop-again c = let t = c .before .before .before .before .before .loop in
     rw (c .before .before .swap .ensures)
     (turning-more _ _ _ _ _ _ (t .inv) (c .before .before .before .before .before .before .before .pre .inside) (c .before .before .before .before .loop-test .taken))
 
--- src/lib.rt:20:1
 same-length : tie.Need-same-length Inv-loop μ-loop
 same-length c = c .before .loop .inv .size
 
--- src/lib.rt:20:1
 returns : tie.Need-returns Inv-loop μ-loop
 returns c = turning-all _ _ _ _ _ _ (c .before .loop .inv) (c .before .before .before .pre .inside) (c .loop-test .left)
 

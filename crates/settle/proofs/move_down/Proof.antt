@@ -15,50 +15,39 @@ Inv-loop book₀ last i₀ j₀ book i j = Lowering book₀ i₀ j₀ i j book �
 abbrev μ-loop : tie.MeasureT-loop
 μ-loop book₀ last i₀ j₀ book i j = last - i
 
--- src/lib.rt:76:5
 loop-holds : tie.Need-loop-holds Inv-loop μ-loop
 loop-holds c = (lowering-none _ _ _, c .pre .0 .order)
 
--- src/lib.rt:77:19
 mul-book : tie.Need-mul-book Inv-loop μ-loop
 mul-book c = omega arith
 
--- src/lib.rt:77:19
 slice-read-book : tie.Need-slice-read-book Inv-loop μ-loop
 slice-read-book c = omega arith
 
--- src/lib.rt:77:9
 mul-book-2 : tie.Need-mul-book-2 Inv-loop μ-loop
 mul-book-2 c = omega arith
 
--- src/lib.rt:77:9
 slice-write-book : tie.Need-slice-write-book Inv-loop μ-loop
 slice-write-book c = omega arith
 
--- src/lib.rt:78:9
 add-i : tie.Need-add-i Inv-loop μ-loop
 add-i c = omega arith
 
--- src/lib.rt:79:9
 add-j : tie.Need-add-j Inv-loop μ-loop
 add-j c = omega arith
 
--- src/lib.rt:76:5
 loop-less : tie.Need-loop-less Inv-loop μ-loop
 loop-less c = omega arith
 
--- src/lib.rt:76:5
 loop-again : tie.Need-loop-again Inv-loop μ-loop
 loop-again c = let s = c .before .before .before in
     let l = c .before .before .loop in
     let t = c .before .loop-test .taken in
     (lowering-more _ _ _ _ _ _ (l .inv .0) (s .pre .1) (omega (arith, s .pre .0 .inside)), omega arith)
 
--- src/lib.rt:68:1
 same-length : tie.Need-same-length Inv-loop μ-loop
 same-length c = c .before .loop .inv .0 .size
 
--- src/lib.rt:68:1
 returns : tie.Need-returns Inv-loop μ-loop
 returns c = let s = c .before .before in
     let l = c .before .loop in

@@ -9,27 +9,24 @@ use Rattle.settle.proofs.set_head.Tie as tie
 use Rattle.settle.proofs.set_head.Reads as reads
 use Rattle.settle.proofs.set_head.Lts as lts
 
--- src/lib.rt:61:5
+cast-used-words : tie.Need-cast-used-words
+cast-used-words c = search needs
+
 slice-write-book : tie.Need-slice-write-book
 slice-write-book c = search needs
 
--- src/lib.rt:62:5
 slice-write-book-2 : tie.Need-slice-write-book-2
 slice-write-book-2 c = simp length-set (omega arith)
 
--- src/lib.rt:63:5
 slice-write-book-3 : tie.Need-slice-write-book-3
 slice-write-book-3 c = simp length-set (omega arith)
 
--- src/lib.rt:64:5
 slice-write-book-4 : tie.Need-slice-write-book-4
 slice-write-book-4 c = simp length-set (omega arith)
 
--- src/lib.rt:57:1
 same-length : tie.Need-same-length
 same-length c = simp length-set
 
--- src/lib.rt:57:1
 returns : tie.Need-returns
 unfolding headed
 returns c = refl
@@ -38,6 +35,7 @@ pub set-head-spec : {M : Type 1} → statement M
 set-head-spec =
     tie.close
     (tie.spec
+    cast-used-words
     slice-write-book
     slice-write-book-2
     slice-write-book-3

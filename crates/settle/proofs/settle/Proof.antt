@@ -7,23 +7,18 @@ use Rattle.settle.proofs.settle.Reads as reads
 use Rattle.settle.proofs.settle.Lts as lts
 use Rattle.settle.proofs.mirror.Reads as mirror-reads
 
--- src/lib.rt:38:5
 mirror-requires : tie.Need-mirror-requires
 mirror-requires c κs = search needs
 
--- src/lib.rt:39:5
 mirror-requires-2 : tie.Need-mirror-requires-2
 mirror-requires-2 c κs = search needs
 
--- src/lib.rt:40:5
 mirror-requires-3 : tie.Need-mirror-requires-3
 mirror-requires-3 c κs = search needs
 
--- src/lib.rt:34:1
 same-length : tie.Need-same-length
 same-length c = search needs
 
--- src/lib.rt:34:1
 returns : tie.Need-returns
 returns c = let s = c .before .before .before .before .before .before .before .before .before .before .before .before .before in
     three-turns _ _ _ _ (s .pre .0 .order) (s .pre .1 .order) (s .pre .1 .inside) _ _ _ (c .before .before .before .before .before .before .before .before .before .before .mirror .ensures) (c .before .before .before .before .before .before .mirror2 .ensures) (c .before .before .mirror3 .ensures)

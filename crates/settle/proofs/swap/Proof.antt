@@ -7,43 +7,33 @@ use Rattle.settle.proofs.swap.Tie as tie
 use Rattle.settle.proofs.swap.Reads as reads
 use Rattle.settle.proofs.swap.Lts as lts
 
--- src/lib.rt:13:13
 mul-x : tie.Need-mul-x
 mul-x c = search needs
 
--- src/lib.rt:13:13
 slice-read-x : tie.Need-slice-read-x
 slice-read-x c = search needs
 
--- src/lib.rt:14:13
 mul-y : tie.Need-mul-y
 mul-y c = search needs
 
--- src/lib.rt:14:13
 slice-read-y : tie.Need-slice-read-y
 slice-read-y c = search needs
 
--- src/lib.rt:15:5
 mul-book : tie.Need-mul-book
 mul-book c = search needs
 
--- src/lib.rt:15:5
 slice-write-book : tie.Need-slice-write-book
 slice-write-book c = search needs
 
--- src/lib.rt:16:5
 mul-book-2 : tie.Need-mul-book-2
 mul-book-2 c = search needs
 
--- src/lib.rt:16:5
 slice-write-book-2 : tie.Need-slice-write-book-2
 slice-write-book-2 c = search needs
 
--- src/lib.rt:9:1
 same-length : tie.Need-same-length
 same-length c = search needs
 
--- src/lib.rt:9:1
 returns : tie.Need-returns
 unfolding swapped
 returns c = refl

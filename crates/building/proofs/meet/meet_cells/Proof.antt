@@ -16,7 +16,7 @@ use Rattle.building.proofs.meet.meet_cells.Statement.{statement}
 use Rattle.building.proofs.meet.meet_cells.Tie as tie
 
 abbrev Inv-loop : tie.InvT-loop
-Inv-loop book sets₀ head₀ next₀ at cells top d many n₀ c₀ sets head next n c = Found book at cells d sets head next n c
+Inv-loop book sets₀ head₀ next₀ at cells top d many n₀ c₀ sets head next n c = Found book (at .0) cells d sets head next n c
 
 abbrev μ-loop : tie.MeasureT-loop
 μ-loop book sets₀ head₀ next₀ at cells top d many n₀ c₀ sets head next n c = cells - c
@@ -30,7 +30,7 @@ module _ (c : tie.After-candidates Inv-loop μ-loop) where
 
   -- the candidates are those of the cell's row
   candidates-are : take (most (start .args .top) (start .args .d)) (c .candidates .result)
-      ≡ map (padded (start .args .d)) (choose (start .args .d + 1) (rowAt (now (start .args .book)) (start .args .at) (start .args .cells) (turn .before .loop .c)))
+      ≡ map (padded (start .args .d)) (choose (start .args .d + 1) (rowAt (now (start .args .book)) (start .args .at .0) (start .args .cells) (turn .before .loop .c)))
   candidates-are =
       let e = row-cell (start .pre .1 .1) (turn .before .loop .c) (turn .loop-test .taken) (start .pre .1 .0 .most) _ (c .before .before .before .before .before .start-of .ensures) _ (c .before .before .before .before .corners .ensures) in
       rw e at (c .candidates .ensures .0)

@@ -9,10 +9,10 @@ use Rattle.building.proofs.write.write_indices.Statement.{statement}
 use Rattle.building.proofs.write.write_indices.Tie as tie
 
 abbrev Inv-loop : tie.InvT-loop
-Inv-loop book₀ sets at n d to₀ i₀ book to i = Listing book₀ at n (vertices d sets) book to i
+Inv-loop book₀ sets n d to₀ i₀ book to i = Listing book₀ to₀ n (vertices d sets) book to i
 
 abbrev μ-loop : tie.MeasureT-loop
-μ-loop book₀ sets at n d to₀ i₀ book to i = n - i
+μ-loop book₀ sets n d to₀ i₀ book to i = n - i
 
 loop-holds : tie.Need-loop-holds Inv-loop μ-loop
 loop-holds c = listing-none _ _ _ _

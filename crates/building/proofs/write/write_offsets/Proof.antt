@@ -7,10 +7,10 @@ use Rattle.building.proofs.write.write_offsets.Statement.{statement}
 use Rattle.building.proofs.write.write_offsets.Tie as tie
 
 abbrev Inv-loop : tie.InvT-loop
-Inv-loop book₀ dst n size i₀ i-end book i = Stepping book₀ dst (n + 1) size book i
+Inv-loop book₀ n size first i₀ i-end book i = Stepping book₀ first (n + 1) size book i
 
 abbrev μ-loop : tie.MeasureT-loop
-μ-loop book₀ dst n size i₀ i-end book i = n + 1 - i
+μ-loop book₀ n size first i₀ i-end book i = n + 1 - i
 
 add-i-end : tie.Need-add-i-end Inv-loop μ-loop
 add-i-end c = omega arith
@@ -18,11 +18,11 @@ add-i-end c = omega arith
 loop-holds : tie.Need-loop-holds Inv-loop μ-loop
 loop-holds c = stepping-none _ _ _ _
 
-cast-put : tie.Need-cast-put Inv-loop μ-loop
-cast-put c = omega arith
+cast-at : tie.Need-cast-at Inv-loop μ-loop
+cast-at c = omega arith
 
-add-put : tie.Need-add-put Inv-loop μ-loop
-add-put c = omega arith
+add-at : tie.Need-add-at Inv-loop μ-loop
+add-at c = omega arith
 
 mul-put : tie.Need-mul-put Inv-loop μ-loop
 mul-put c =
@@ -58,8 +58,8 @@ write-offsets-spec =
     μ-loop
     add-i-end
     loop-holds
-    cast-put
-    add-put
+    cast-at
+    add-at
     mul-put
     put-requires
     add-i

@@ -6,6 +6,12 @@ use borrow.Author.Needs.{needs}
 use Rattle.building.proofs.write.write_set.Statement.{statement}
 use Rattle.building.proofs.write.write_set.Tie as tie
 
+add-second : tie.Need-add-second
+add-second c = search needs
+
+add-third : tie.Need-add-third
+add-third c = search needs
+
 mul-put : tie.Need-mul-put
 mul-put c = search needs
 
@@ -18,14 +24,11 @@ element-copy-out-put c = search needs
 put-requires : tie.Need-put-requires
 put-requires c κs = search needs
 
-add-put : tie.Need-add-put
-add-put c = search needs
-
 mul-put-3 : tie.Need-mul-put-3
 mul-put-3 c = search needs
 
-add-put-2 : tie.Need-add-put-2
-add-put-2 c = search needs
+add-put : tie.Need-add-put
+add-put c = search needs
 
 mul-put-4 : tie.Need-mul-put-4
 mul-put-4 c = search needs
@@ -36,14 +39,11 @@ element-copy-out-put-2 c = search needs
 put-requires-2 : tie.Need-put-requires-2
 put-requires-2 c κs = search needs
 
-add-put-3 : tie.Need-add-put-3
-add-put-3 c = search needs
-
 mul-put-5 : tie.Need-mul-put-5
 mul-put-5 c = search needs
 
-add-put-4 : tie.Need-add-put-4
-add-put-4 c = search needs
+add-put-2 : tie.Need-add-put-2
+add-put-2 c = search needs
 
 mul-put-6 : tie.Need-mul-put-6
 mul-put-6 c = search needs
@@ -72,7 +72,7 @@ returns-2 : tie.Need-returns-2
 returns-2 c =
     let q = c .before .before .before in
     let r = q .before .before .before .before .before in
-    let s = r .before .before .before .before in
+    let s = r .before .before .before .before .before .before in
     let n = c .if1 .left in
     let e : s .args .d ≡ 1 = omega (arith, s .pre .1, n) in
     rw (q .put2 .ensures, r .put .ensures) (two-written _ _ _ _ _ e)
@@ -81,19 +81,19 @@ pub write-set-spec : {M : Type 1} → statement M
 write-set-spec =
     tie.close
     (tie.spec
+    add-second
+    add-third
     mul-put
     mul-put-2
     element-copy-out-put
     put-requires
-    add-put
     mul-put-3
-    add-put-2
+    add-put
     mul-put-4
     element-copy-out-put-2
     put-requires-2
-    add-put-3
     mul-put-5
-    add-put-4
+    add-put-2
     mul-put-6
     element-copy-out-put-3
     put-requires-3

@@ -10,11 +10,11 @@ add-write-offsets c = search needs
 write-offsets-requires : tie.Need-write-offsets-requires
 write-offsets-requires c κs = search needs
 
-add-write-indices : tie.Need-add-write-indices
-add-write-indices c = search needs
+add-first : tie.Need-add-first
+add-first c = search needs
 
-add-write-indices-2 : tie.Need-add-write-indices-2
-add-write-indices-2 c = search needs
+add-first-2 : tie.Need-add-first-2
+add-first-2 c = search needs
 
 write-indices-requires : tie.Need-write-indices-requires
 write-indices-requires c κs = search needs
@@ -25,7 +25,7 @@ same-length c = search needs
 returns : tie.Need-returns
 returns c =
     let i = c .before .before in
-    let o = i .before .before .before .before in
+    let o = i .before .before .before .before .before in
     let s = o .before .before .before in
     even-written _ _ (vertices-length _ _ (s .pre .1 .1)) _ (o .write-offsets .ensures) (o .write-offsets .kept .0) (i .write-indices .ensures)
 
@@ -35,8 +35,8 @@ write-sets-spec =
     (tie.spec
     add-write-offsets
     write-offsets-requires
-    add-write-indices
-    add-write-indices-2
+    add-first
+    add-first-2
     write-indices-requires
     same-length
     returns)

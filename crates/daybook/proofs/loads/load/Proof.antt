@@ -16,60 +16,50 @@ use Rattle.daybook.proofs.loads.refused.Reads as refused-reads
 use Rattle.dayfile.proofs.fault.Reads as fault-reads
 use Rattle.dayfile.proofs.header.Reads as header-reads
 use Rattle.loading.proofs.fill.Reads as fill-reads
-use Rattle.loading.proofs.words_for.Reads as words-for-reads
+use Rattle.loading.proofs.end_of.Reads as end-of-reads
 
--- src/loads.rt:51:9
 fault-requires : tie.Need-fault-requires
 fault-requires c κs = search needs
 
--- src/loads.rt:52:8
 number-of-requires : tie.Need-number-of-requires
 number-of-requires c κs = search needs
 
--- src/loads.rt:53:9
 refused-requires : tie.Need-refused-requires
 refused-requires c κs = search needs
 
--- src/loads.rt:53:9
 returns : tie.Need-returns
 returns c = let s = c .before .before .before .before .before .before in
     let g = faulty (s .args .file .now) (s .args .book .now) _ (c .before .before .before .fault .ensures) (λ e. c .before .if1 .taken (c .before .before .number-of .ensures ∙ e)) in
     (c .refused .ensures .0 ∙ g .number-is, (c .refused .ensures .1 ∙ g .cell-is, g .words-are))
 
--- src/loads.rt:55:9
 header-requires : tie.Need-header-requires
 header-requires c κs = search needs
 
--- src/loads.rt:56:21
-words-for-requires : tie.Need-words-for-requires
-words-for-requires c κs = search needs
+end-of-requires : tie.Need-end-of-requires
+end-of-requires c κs = search needs
 
--- src/loads.rt:57:9
 returns-2 : tie.Need-returns-2
 unfolding loadedNumber loadedCell
-returns-2 c = let s = c .before .before .before .before .before .before .before .before in
-    let q = sym (c .before .before .before .before .number-of .ensures) ∙ c .before .before .before .if1 .left in
-    let n = words-needed (s .args .file .now) _ _ (c .before .before .header .ensures) (c .before .words-for .ensures) in
-    let g = crowded (s .args .file .now) (s .args .book .now) _ (c .before .before .before .before .before .fault .ensures) q (rw n at (c .if2 .taken)) in
+returns-2 c = let s = c .before .before .before .before .before .before .before .before .before in
+    let q = sym (c .before .before .before .before .before .number-of .ensures) ∙ c .before .before .before .before .if1 .left in
+    let n = words-needed (s .args .file .now) _ _ (c .before .before .before .header .ensures) (c .before .before .end-of .ensures) in
+    let g = crowded (s .args .file .now) (s .args .book .now) _ (c .before .before .before .before .before .before .fault .ensures) q (rw n at (c .if2 .taken)) in
     (g .number-is, (g .cell-is, g .words-are))
 
--- src/loads.rt:59:5
 fill-requires : tie.Need-fill-requires
-fill-requires c κs = let s = c .before .before .before .before .before .before .before .before .before in
-    let n = words-needed (s .args .file .now) _ _ (c .before .before .before .header .ensures) (c .before .before .words-for .ensures) in
+fill-requires c κs = let s = c .before .before .before .before .before .before .before .before .before .before in
+    let n = words-needed (s .args .file .now) _ _ (c .before .before .before .before .header .ensures) (c .before .before .before .end-of .ensures) in
     rw n at (c .before .if2 .left)
 
--- src/loads.rt:46:1
 same-length : tie.Need-same-length
 same-length c = search needs
 
--- src/loads.rt:46:1
 returns-3 : tie.Need-returns-3
 unfolding loadedNumber loadedCell
-returns-3 c = let s = c .before .before .before .before .before .before .before .before .before .before .before .before in
-    let q = sym (c .before .before .before .before .before .before .before .before .number-of .ensures) ∙ c .before .before .before .before .before .before .before .if1 .left in
-    let n = words-needed (s .args .file .now) _ _ (c .before .before .before .before .before .before .header .ensures) (c .before .before .before .before .before .words-for .ensures) in
-    let g = accepted (s .args .file .now) (s .args .book .now) _ (c .before .before .before .before .before .before .before .before .before .fault .ensures) q (rw n at (c .before .before .before .before .if2 .left)) in
+returns-3 c = let s = c .before .before .before .before .before .before .before .before .before .before .before .before .before in
+    let q = sym (c .before .before .before .before .before .before .before .before .before .number-of .ensures) ∙ c .before .before .before .before .before .before .before .before .if1 .left in
+    let n = words-needed (s .args .file .now) _ _ (c .before .before .before .before .before .before .before .header .ensures) (c .before .before .before .before .before .before .end-of .ensures) in
+    let g = accepted (s .args .file .now) (s .args .book .now) _ (c .before .before .before .before .before .before .before .before .before .before .fault .ensures) q (rw n at (c .before .before .before .before .if2 .left)) in
     (g .number-is, (g .cell-is, c .before .before .fill .ensures ∙ g .words-are))
 
 pub load-spec : {M : Type 1} → statement M
@@ -81,7 +71,7 @@ load-spec =
     refused-requires
     returns
     header-requires
-    words-for-requires
+    end-of-requires
     returns-2
     fill-requires
     same-length

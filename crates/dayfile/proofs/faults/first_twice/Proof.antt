@@ -8,21 +8,23 @@ use native.Mathlib.Omega.{arith}
 use lib.ListN.{length, drop, getD, replicate}
 use Rattle.rules.specs.Lists.{firstAt}
 use Rattle.rules.specs.File.{fileDim, fileCells, fileCell, cellsInFile, twice}
+use Rattle.dayfile.specs.Numbers.{numbers}
 use Rattle.rules.proofs.Fields.{dim-below}
 use Rattle.rules.proofs.Head.{head-dim, head-cells}
 use Rattle.rules.proofs.Searched.{first-passed, first-found, first-none, Apart, ApartFrom, from-none, from-more, before-more, apart-all, apart-front, twice-front}
 use Rattle.dayfile.proofs.Four.{cell-length}
+use Rattle.dayfile.proofs.Numbers.{number-at}
 use Rattle.dayfile.proofs.faults.first_twice.Statement.{statement}
 use Rattle.dayfile.proofs.faults.first_twice.Tie as tie
 
 abbrev Inv-loop2 : tie.InvT-loop2
-Inv-loop2 file count dim n c v i j₀ j = (i < j) × (j ≤ n) × ApartFrom v i j
+Inv-loop2 file count dim n c v i j₀ j = (i < j) × (j ≤ n) × ApartFrom (numbers v) i j
 
 abbrev μ-loop2 : tie.MeasureT-loop2
 μ-loop2 file count dim n c v i j₀ j = n - j
 
 abbrev Inv-loop : tie.InvT-loop
-Inv-loop file count dim n c v i₀ i = (i ≤ n) × ((a : ℕ) → a < i → ApartFrom v a n)
+Inv-loop file count dim n c v i₀ i = (i ≤ n) × ((a : ℕ) → a < i → ApartFrom (numbers v) a n)
 
 abbrev μ-loop : tie.MeasureT-loop
 μ-loop file count dim n c v i₀ i = n - i
@@ -62,7 +64,7 @@ add-j : tie.Need-add-j Inv-loop2 μ-loop2 Inv-loop μ-loop Inv-cells μ-cells
 add-j c = omega arith
 
 loop2-holds : tie.Need-loop2-holds Inv-loop2 μ-loop2 Inv-loop μ-loop Inv-cells μ-cells
-loop2-holds c = (omega arith, omega arith, from-none (c .before .before .in-file .result) (c .before .loop .i))
+loop2-holds c = (omega arith, omega arith, from-none (numbers (c .before .before .in-file .result)) (c .before .loop .i))
 
 mul-if1 : tie.Need-mul-if1 Inv-loop2 μ-loop2 Inv-loop μ-loop Inv-cells μ-cells
 mul-if1 c =
@@ -70,8 +72,8 @@ mul-if1 c =
     let d : c .before .before .before .before .before .before .before .dimension .result ≡ fileDim f = c .before .before .before .before .before .before .before .dimension .ensures ∙ rw (c .before .before .before .before .before .before .before .before .before .before .pre) (head-dim f) in
     omega (arith, dim-below f)
 
-array-read-if1 : tie.Need-array-read-if1 Inv-loop2 μ-loop2 Inv-loop μ-loop Inv-cells μ-cells
-array-read-if1 c =
+element-copy-out-if1 : tie.Need-element-copy-out-if1 Inv-loop2 μ-loop2 Inv-loop μ-loop Inv-cells μ-cells
+element-copy-out-if1 c =
     let f = c .before .before .before .before .before .before .before .before .before .before .args .file .now in
     let d : c .before .before .before .before .before .before .before .dimension .result ≡ fileDim f = c .before .before .before .before .before .before .before .dimension .ensures ∙ rw (c .before .before .before .before .before .before .before .before .before .before .pre) (head-dim f) in
     omega (arith, dim-below f)
@@ -82,8 +84,8 @@ mul-if1-2 c =
     let d : c .before .before .before .before .before .before .before .dimension .result ≡ fileDim f = c .before .before .before .before .before .before .before .dimension .ensures ∙ rw (c .before .before .before .before .before .before .before .before .before .before .pre) (head-dim f) in
     omega (arith, dim-below f)
 
-array-read-if1-2 : tie.Need-array-read-if1-2 Inv-loop2 μ-loop2 Inv-loop μ-loop Inv-cells μ-cells
-array-read-if1-2 c =
+element-copy-out-if1-2 : tie.Need-element-copy-out-if1-2 Inv-loop2 μ-loop2 Inv-loop μ-loop Inv-cells μ-cells
+element-copy-out-if1-2 c =
     let f = c .before .before .before .before .before .before .before .before .before .before .args .file .now in
     let d : c .before .before .before .before .before .before .before .dimension .result ≡ fileDim f = c .before .before .before .before .before .before .before .dimension .ensures ∙ rw (c .before .before .before .before .before .before .before .before .before .before .pre) (head-dim f) in
     omega (arith, dim-below f)
@@ -97,7 +99,9 @@ loop2-less c = omega arith
 loop2-again : tie.Need-loop2-again Inv-loop2 μ-loop2 Inv-loop μ-loop Inv-cells μ-cells
 loop2-again c =
     let u = c .before .before .loop2 in
-    (omega arith, omega arith, from-more (c .before .before .before .before .before .in-file .result) (c .before .before .before .before .loop .i) (u .j) (u .inv .2) (c .if1 .left))
+    let v = c .before .before .before .before .before .in-file .result in
+    let i = c .before .before .before .before .loop .i in
+    (omega arith, omega arith, from-more (numbers v) i (u .j) (u .inv .2) (λ e. c .if1 .left (sym (number-at v i) ∙ e ∙ number-at v (u .j))))
 
 add-i : tie.Need-add-i Inv-loop2 μ-loop2 Inv-loop μ-loop Inv-cells μ-cells
 add-i c = omega arith
@@ -109,7 +113,7 @@ loop-again : tie.Need-loop-again Inv-loop2 μ-loop2 Inv-loop μ-loop Inv-cells �
 loop-again c =
     let t = c .before .before .before .loop in
     let u = c .before .loop2 in
-    let v = c .before .before .before .before .in-file .result in
+    let v = numbers (c .before .before .before .before .in-file .result) in
     let m = c .before .before .before .before .before .before .before .dimension .result + 1 in
     let e : u .j ≡ m = omega arith in
     let g : ApartFrom v (t .i) m = rw e at (u .inv .2) in
@@ -129,7 +133,7 @@ cells-again c =
     let n : c .before .before .before .before .before .before .cells2 .result ≡ fileCells f = c .before .before .before .before .before .before .cells2 .ensures ∙ rw (c .before .before .before .before .before .before .before .before .pre) (head-cells f) in
     let t = c .before .before .before .before .cells in
     let v = fileCell f (t .c) ++ replicate (3 - fileDim f) 0 in
-    let w = c .before .before .in-file .result in
+    let w = numbers (c .before .before .in-file .result) in
     let m = c .before .before .before .before .before .dimension .result + 1 in
     let q : m ≡ length (fileCell f (t .c)) = rw (cell-length f (t .c)) (omega arith) in
     let a : Apart w m = apart-all w m (λ k l. c .before .loop .inv .1 k (omega arith)) in
@@ -156,7 +160,8 @@ returns-2 c =
     let v = fileCell f (t .c) ++ replicate (3 - fileDim f) 0 in
     let i = c .before .before .before .before .loop .i in
     let j = c .before .before .loop2 .j in
-    let q : getD v i 0 ≡ getD v j 0 = rw (← c .before .before .before .before .before .in-file .ensures) (c .if1 .taken) in
+    let w = c .before .before .before .before .before .in-file .result in
+    let q : getD v i 0 ≡ getD v j 0 = rw (← c .before .before .before .before .before .in-file .ensures) (number-at w i ∙ c .if1 .taken ∙ sym (number-at w j)) in
     let e : twice (fileCell f (t .c)) ≡ true = twice-front (fileCell f (t .c)) (replicate (3 - fileDim f) 0) i j (omega arith) (rw (cell-length f (t .c)) (omega arith)) q in
     sym (first-found twice (fileCell f) (fileCells f) (t .c) (omega arith) e) ∙ t .inv .1
 
@@ -180,9 +185,9 @@ first-twice-spec =
     add-j
     loop2-holds
     mul-if1
-    array-read-if1
+    element-copy-out-if1
     mul-if1-2
-    array-read-if1-2
+    element-copy-out-if1-2
     add-j-2
     loop2-less
     loop2-again

@@ -21,17 +21,17 @@ loop-holds : tie.Need-loop-holds Inv-loop μ-loop
 unfolding moved
 loop-holds c = (search needs, refl)
 
-mul-after : tie.Need-mul-after Inv-loop μ-loop
-mul-after c = omega arith
+mul-at : tie.Need-mul-at Inv-loop μ-loop
+mul-at c = omega arith
 
-array-read-after : tie.Need-array-read-after Inv-loop μ-loop
-array-read-after c = omega arith
+array-read-at : tie.Need-array-read-at Inv-loop μ-loop
+array-read-at c = omega arith
 
-mul-after-2 : tie.Need-mul-after-2 Inv-loop μ-loop
-mul-after-2 c = omega arith
+mul-stop : tie.Need-mul-stop Inv-loop μ-loop
+mul-stop c = omega arith
 
-array-read-after-2 : tie.Need-array-read-after-2 Inv-loop μ-loop
-array-read-after-2 c = omega arith
+array-read-stop : tie.Need-array-read-stop Inv-loop μ-loop
+array-read-stop c = omega arith
 
 after-requires : tie.Need-after-requires Inv-loop μ-loop
 after-requires c κs = c .before .before .before .before .before .pre .ends (c .before .loop .k) (c .loop-test .taken)
@@ -68,10 +68,10 @@ advanced-spec =
     Inv-loop
     μ-loop
     loop-holds
-    mul-after
-    array-read-after
-    mul-after-2
-    array-read-after-2
+    mul-at
+    array-read-at
+    mul-stop
+    array-read-stop
     after-requires
     mul-next
     array-write-next

@@ -9,16 +9,16 @@ use Rattle.relations.proofs.merge.among.Statement.{statement}
 use Rattle.relations.proofs.merge.among.Tie as tie
 
 abbrev Inv-loop : tie.InvT-loop
-Inv-loop book a n x end at₀ at = (at ≤ end) × (has x (part book a n) ≡ has x (part book at (end - at)))
+Inv-loop book n x at₀ end at = (at ≤ end) × (has x (part book at₀ n) ≡ has x (part book at (end - at)))
 
 abbrev μ-loop : tie.MeasureT-loop
-μ-loop book a n x end at₀ at = end - at
+μ-loop book n x at₀ end at = end - at
 
 add-end : tie.Need-add-end Inv-loop μ-loop
 add-end c = omega arith
 
 loop-holds : tie.Need-loop-holds Inv-loop μ-loop
-loop-holds c = let a = c .args in (omega arith, ap (has (a .x)) (part-whole (a .book .now) (a .a) (a .n)))
+loop-holds c = let a = c .args in (omega arith, ap (has (a .x)) (part-whole (a .book .now) (a .a .0) (a .n)))
 
 mul-if1 : tie.Need-mul-if1 Inv-loop μ-loop
 mul-if1 c = omega arith
@@ -30,7 +30,7 @@ returns : tie.Need-returns Inv-loop μ-loop
 returns c =
     let a = c .before .before .before .before .args in
     let t = c .before .before .before .loop in
-    sym (t .inv .1 ∙ has-here (a .book .now) (t .at) (a .a + a .n) (c .before .before .loop-test .taken) (c .before .before .before .before .pre) (a .x) (c .if1 .taken))
+    sym (t .inv .1 ∙ has-here (a .book .now) (t .at) (a .a .0 + a .n) (c .before .before .loop-test .taken) (c .before .before .before .before .pre) (a .x) (c .if1 .taken))
 
 add-at : tie.Need-add-at Inv-loop μ-loop
 add-at c = omega arith
@@ -42,13 +42,13 @@ loop-again : tie.Need-loop-again Inv-loop μ-loop
 loop-again c =
     let a = c .before .before .before .before .args in
     let t = c .before .before .before .loop in
-    (omega arith, t .inv .1 ∙ has-next (a .book .now) (t .at) (a .a + a .n) (c .before .before .loop-test .taken) (c .before .before .before .before .pre) (a .x) (c .if1 .left))
+    (omega arith, t .inv .1 ∙ has-next (a .book .now) (t .at) (a .a .0 + a .n) (c .before .before .loop-test .taken) (c .before .before .before .before .pre) (a .x) (c .if1 .left))
 
 returns-2 : tie.Need-returns-2 Inv-loop μ-loop
 returns-2 c =
     let a = c .before .before .args in
     let t = c .before .loop in
-    sym (t .inv .1 ∙ has-none (a .book .now) (t .at) (a .a + a .n) (c .loop-test .left) (a .x))
+    sym (t .inv .1 ∙ has-none (a .book .now) (t .at) (a .a .0 + a .n) (c .loop-test .left) (a .x))
 
 pub among-spec : {M : Type 1} → statement M
 among-spec =

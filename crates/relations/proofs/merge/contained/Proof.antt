@@ -11,10 +11,10 @@ use Rattle.relations.proofs.merge.contained.Statement.{statement}
 use Rattle.relations.proofs.merge.contained.Tie as tie
 
 abbrev Inv-loop : tie.InvT-loop
-Inv-loop book a an b bn end at₀ at = (at ≤ end) × (inside (part book a an) (part book b bn) ≡ inside (part book at (end - at)) (part book b bn))
+Inv-loop book an b bn at₀ end at = (at ≤ end) × (inside (part book at₀ an) (part book (b .0) bn) ≡ inside (part book at (end - at)) (part book (b .0) bn))
 
 abbrev μ-loop : tie.MeasureT-loop
-μ-loop book a an b bn end at₀ at = end - at
+μ-loop book an b bn at₀ end at = end - at
 
 add-end : tie.Need-add-end Inv-loop μ-loop
 add-end c = omega arith
@@ -22,7 +22,7 @@ add-end c = omega arith
 loop-holds : tie.Need-loop-holds Inv-loop μ-loop
 loop-holds c =
     let a = c .before .args in
-    (omega arith, ap (λ (p : List ℕ). inside p (part (a .book .now) (a .b) (a .bn))) (part-whole (a .book .now) (a .a) (a .an)))
+    (omega arith, ap (λ (p : List ℕ). inside p (part (a .book .now) (a .b .0) (a .bn))) (part-whole (a .book .now) (a .a .0) (a .an)))
 
 mul-among : tie.Need-mul-among Inv-loop μ-loop
 mul-among c = omega arith
@@ -38,7 +38,7 @@ returns c =
     let s = c .before .before .before .before .before .before in
     let a = s .args in
     let t = c .before .before .before .before .loop in
-    sym (t .inv .1 ∙ inside-not (a .book .now) (t .at) (a .a + a .an) (c .before .before .before .loop-test .taken) (s .pre .0) (part (a .book .now) (a .b) (a .bn)) (sym (c .before .among .ensures) ∙ not-true _ (c .if1 .taken)))
+    sym (t .inv .1 ∙ inside-not (a .book .now) (t .at) (a .a .0 + a .an) (c .before .before .before .loop-test .taken) (s .pre .0) (part (a .book .now) (a .b .0) (a .bn)) (sym (c .before .among .ensures) ∙ not-true _ (c .if1 .taken)))
 
 add-at : tie.Need-add-at Inv-loop μ-loop
 add-at c = omega arith
@@ -51,13 +51,13 @@ loop-again c =
     let s = c .before .before .before .before .before .before in
     let a = s .args in
     let t = c .before .before .before .before .loop in
-    (omega arith, t .inv .1 ∙ inside-next (a .book .now) (t .at) (a .a + a .an) (c .before .before .before .loop-test .taken) (s .pre .0) (part (a .book .now) (a .b) (a .bn)) (sym (c .before .among .ensures) ∙ not-false _ (c .if1 .left)))
+    (omega arith, t .inv .1 ∙ inside-next (a .book .now) (t .at) (a .a .0 + a .an) (c .before .before .before .loop-test .taken) (s .pre .0) (part (a .book .now) (a .b .0) (a .bn)) (sym (c .before .among .ensures) ∙ not-false _ (c .if1 .left)))
 
 returns-2 : tie.Need-returns-2 Inv-loop μ-loop
 returns-2 c =
     let a = c .before .before .before .args in
     let t = c .before .loop in
-    sym (t .inv .1 ∙ inside-all (a .book .now) (t .at) (a .a + a .an) (c .loop-test .left) (part (a .book .now) (a .b) (a .bn)))
+    sym (t .inv .1 ∙ inside-all (a .book .now) (t .at) (a .a .0 + a .an) (c .loop-test .left) (part (a .book .now) (a .b .0) (a .bn)))
 
 pub contained-spec : {M : Type 1} → statement M
 contained-spec =

@@ -9,7 +9,7 @@ cast-inner c = search needs
 
 inner-requires : tie.Need-inner-requires
 inner-requires c κs =
-    let (a, (s, (t, (u, (p, l))))) = c .before .before .before .before .before .before .pre in
+    let (a, (s, (t, (u, (p, l))))) = c .before .before .before .pre in
     (ready-inner a s t u p l, (ready-sub a s t u p l, (inner-few a s t u p l, used-fits a)))
 
 same-length : tie.Need-same-length
@@ -17,7 +17,7 @@ same-length c = search needs
 
 returns : tie.Need-returns
 returns c =
-    let (a, (s, (t, (u, (p, l))))) = c .before .before .before .before .before .before .before .before .before .pre in
+    let (a, (s, (t, (u, (p, l))))) = c .before .before .before .before .before .before .pre in
     rw (inner-made a s t u p l) at (c .before .before .inner .ensures)
 
 pub insides-spec : {M : Type 1} → statement M

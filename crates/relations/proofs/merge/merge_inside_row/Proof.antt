@@ -12,10 +12,10 @@ use Rattle.relations.proofs.merge.merge_inside_row.Statement.{statement
 use Rattle.relations.proofs.merge.merge_inside_row.Tie as tie
 
 abbrev Inv-loop : tie.InvT-loop
-Inv-loop book₀ n rows a m bound dst count rest₀ at₀ book rest at = Turn (liesIn book₀ rows bound a m) n bound dst book₀ (rest₀ .next) (rest₀ .end) book (rest .next) (rest .end) at
+Inv-loop book₀ n rows a m bound count rest₀ at₀ book rest at = Turn (liesIn book₀ (rows .0) bound (a .0) m) n bound at₀ book₀ (rest₀ .next) (rest₀ .end) book (rest .next) (rest .end) at
 
 abbrev μ-loop : tie.MeasureT-loop
-μ-loop book₀ n rows a m bound dst count rest₀ at₀ book rest at = length (joined (parts book₀ (rest .next) (rest₀ .end) n))
+μ-loop book₀ n rows a m bound count rest₀ at₀ book rest at = length (joined (parts book₀ (rest .next) (rest₀ .end) n))
 
 loop-holds : tie.Need-loop-holds Inv-loop μ-loop
 loop-holds c = let four : length (c .before .args .c .next) ≡ 4 = search needs in start (omega arith) (c .before .pre .0)
@@ -46,10 +46,10 @@ put-requires c κs = tt
 
 -- what the call found is the test, whose rows and part stand before dst
 found : (c : tie.After-row-lies-in Inv-loop μ-loop) → let a = c .before .before .before .before .before .before .before .before .before .args in
-    liesIn (a .book .now) (a .rows) (a .bound) (a .a) (a .m) (c .before .before .before .before .before .least .result) ≡ c .row-lies-in .result
+    liesIn (a .book .now) (a .rows .0) (a .bound) (a .a .0) (a .m) (c .before .before .before .before .before .least .result) ≡ c .row-lies-in .result
 found c =
     let s = c .before .before .before .before .before .before .before .before .before in
-    sym (c .row-lies-in .ensures ∙ liesIn-front _ _ _ (min-front (c .before .before .before .before .before .before .before .loop .inv)) (s .pre .1 .0) (s .args .a) (s .args .m) (s .pre .1 .1 .0) _ (c .before .before .before .before .if1 .left))
+    sym (c .row-lies-in .ensures ∙ liesIn-front _ _ _ (min-front (c .before .before .before .before .before .before .before .loop .inv)) (s .pre .1 .0) (s .args .a .0) (s .args .m) (s .pre .1 .1 .0) _ (c .before .before .before .before .if1 .left))
 
 add-at : tie.Need-add-at Inv-loop μ-loop
 add-at c = omega (arith, turn-below (c .before .before .before .before .before .before .before .before .before .before .before .before .loop .inv) _ (c .before .before .before .before .before .before .before .before .before .before .least .ensures) (c .before .before .before .before .before .before .before .before .before .if1 .left) (found (c .before .before .before .before .before) ∙ c .before .before .before .before .if2 .taken), c .before .before .before .before .before .before .before .before .before .before .before .before .before .before .pre .1 .1 .1)

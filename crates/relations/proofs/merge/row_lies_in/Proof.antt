@@ -14,8 +14,8 @@ abbrev Ends : tie.Start → Type 0
 Ends s =
     let a = s .args in
     let ws = a .book .now in
-    (a .rows + a .n + 1 + getD ws (a .rows + (a .i + 1)) 0 ≤ length ws)
-    × (getD ws (a .rows + a .i) 0 ≤ getD ws (a .rows + (a .i + 1)) 0)
+    (a .rows .0 + a .n + 1 + getD ws (a .rows .0 + (a .i + 1)) 0 ≤ length ws)
+    × (getD ws (a .rows .0 + a .i) 0 ≤ getD ws (a .rows .0 + (a .i + 1)) 0)
 
 ends : (s : tie.Start) → Ends s
 ends s = (rows-fit (s .pre .0) (s .args .i + 1) (omega (arith, s .pre .1 .1)), s .pre .0 .rise (s .args .i) (s .pre .1 .1))
@@ -30,7 +30,7 @@ shared-slice-read-first : tie.Need-shared-slice-read-first
 shared-slice-read-first c = omega (arith, ends (c .before .before))
 
 cast-first : tie.Need-cast-first
-cast-first c = omega (arith, ends (c .before .before), c .shared-slice-known2 .given (c .before .before .args .rows + c .before .before .args .i))
+cast-first c = omega (arith, ends (c .before .before), c .shared-slice-known2 .given (c .before .before .args .rows .0 + c .before .before .args .i))
 
 add-last : tie.Need-add-last
 add-last c = search needs
@@ -45,16 +45,16 @@ shared-slice-read-last : tie.Need-shared-slice-read-last
 shared-slice-read-last c = omega (arith, ends (c .before .before .before))
 
 cast-last : tie.Need-cast-last
-cast-last c = omega (arith, ends (c .before .before .before), c .shared-slice-known3 .given (c .before .before .before .args .rows + (c .before .before .before .args .i + 1)))
+cast-last c = omega (arith, ends (c .before .before .before), c .shared-slice-known3 .given (c .before .before .before .args .rows .0 + (c .before .before .before .args .i + 1)))
 
-add-contained : tie.Need-add-contained
-add-contained c = omega (arith, ends (c .before .before .before))
+add-start : tie.Need-add-start
+add-start c = omega (arith, ends (c .before .before .before))
 
-add-contained-2 : tie.Need-add-contained-2
-add-contained-2 c = omega (arith, ends (c .before .before .before))
+add-start-2 : tie.Need-add-start-2
+add-start-2 c = omega (arith, ends (c .before .before .before))
 
-add-contained-3 : tie.Need-add-contained-3
-add-contained-3 c = omega (arith, ends (c .before .before .before))
+add-start-3 : tie.Need-add-start-3
+add-start-3 c = omega (arith, ends (c .before .before .before))
 
 sub-contained : tie.Need-sub-contained
 sub-contained c = omega (arith, ends (c .before .before .before))
@@ -81,9 +81,9 @@ row-lies-in-spec =
     mul-last
     shared-slice-read-last
     cast-last
-    add-contained
-    add-contained-2
-    add-contained-3
+    add-start
+    add-start-2
+    add-start-3
     sub-contained
     contained-requires
     returns)

@@ -13,10 +13,10 @@ use Rattle.relations.proofs.points.meet.Reads as meet-reads
 use Rattle.relations.proofs.words.start_of.Reads as start-of-reads
 
 abbrev Inv-loop : tie.InvT-loop
-Inv-loop book met₀ touched₀ stamp cells n from to p₀ met touched p = Gathering book met₀ touched₀ (rowAt book cells n) stamp n from to met touched p
+Inv-loop book met₀ touched₀ stamp cells n from to met touched p = Gathering book met₀ touched₀ (rowAt book (cells .0) n) stamp n from to met touched p
 
 abbrev μ-loop : tie.MeasureT-loop
-μ-loop book met₀ touched₀ stamp cells n from to p₀ met touched p = to - p
+μ-loop book met₀ touched₀ stamp cells n from to met touched p = to - p
 
 module _ (c : tie.In-loop Inv-loop μ-loop) where
   abbrev start : tie.Start Inv-loop μ-loop

@@ -17,23 +17,30 @@ use Rattle.relations.proofs.points.point_row.Reads as point-row-reads
 use Rattle.relations.proofs.words.put.Reads as put-reads
 
 abbrev Inv-loop : tie.InvT-loop
-Inv-loop book₀ own n back v dst met₀ touched₀ first at₀ i₀ book met touched at i = (i ≤ n) × Fresh met touched i × Filled (nearRow book₀ own n back v) n dst book₀ book i at
+Inv-loop book₀ own n back v dst met₀ touched₀ first at₀ i₀ book met touched at i = (i ≤ n) × Fresh met touched i × Filled (nearRow book₀ (own .0) n (back .0) v) n (dst .0) book₀ book i (at .0)
 
 abbrev μ-loop : tie.MeasureT-loop
 μ-loop book₀ own n back v dst met₀ touched₀ first at₀ i₀ book met touched at i = n - i
 
+-- the function's entry, from the place before the loop
+abbrev start : tie.After-slice-known2 Inv-loop μ-loop → tie.Start Inv-loop μ-loop
+start e = e .before .before .before .before .before .before
+
+-- the loop's turn, from the place after its call
+abbrev turn : tie.After-point-row Inv-loop μ-loop → tie.In-loop Inv-loop μ-loop
+turn call = call .before .before .before .before
+
 -- what decides the rows stands before dst
-base : (e : tie.After-slice-known2 Inv-loop μ-loop) → let s = e .before .before .before .before .before in
-    let a = s .args in
-    Base (λ (vs : List ℕ). nearRow vs (a .own) (a .n) (a .back) (a .v)) (a .book .now) (e .before .before .put .last .0) (a .n) (a .dst) (min (a .dst) (length (a .book .now)))
+base : (e : tie.After-slice-known2 Inv-loop μ-loop) → let a = start e .args in
+    Base (λ (vs : List ℕ). nearRow vs (a .own .0) (a .n) (a .back .0) (a .v)) (a .book .now) (e .before .before .put .last .0) (a .n) (a .dst .0) (min (a .dst .0) (length (a .book .now)))
 base e =
-    let s = e .before .before .before .before .before in
+    let s = start e in
     let a = s .args in
     record {
       first = e .before .before .put .ensures;
       before = omega arith;
-      same = λ vs q. nearRow-front vs (a .book .now) (min (a .dst) (length (a .book .now))) q (a .own) (a .n) (a .back) (a .v) (s .pre .0 .through);
-      short = λ vs i. omega (arith, length-nearRow vs (a .own) (a .n) (a .back) (a .v) i, s .pre .0 .most);
+      same = λ vs q. nearRow-front vs (a .book .now) (min (a .dst .0) (length (a .book .now))) q (a .own .0) (a .n) (a .back .0) (a .v) (s .pre .0 .through);
+      short = λ vs i. omega (arith, length-nearRow vs (a .own .0) (a .n) (a .back .0) (a .v) i, s .pre .0 .most);
     }
 
 add-first : tie.Need-add-first Inv-loop μ-loop
@@ -59,32 +66,38 @@ point-row-requires c κs =
     let l = t .before .loop in
     let z = row-size b (l .inv .2) in
     let y = row-after b (l .inv .2) in
-    let s = t .before .before .before .before .before .before .before in (
+    let s = start (t .before .before) in (
       around-front _ _ _ (row-front b (l .inv .2)) (s .pre .0) _ (omega (arith, z, y)),
       (l .inv .1, (t .loop-test .taken, omega (arith, row-reach b (l .inv .2), s .pre .0 .most, s .pre .1))),
     )
 
-cast-put : tie.Need-cast-put Inv-loop μ-loop
-cast-put c = omega (arith, c .before .before .before .before .before .before .before .before .before .before .before .before .before .before .pre .0 .most)
+cast-offset : tie.Need-cast-offset Inv-loop μ-loop
+cast-offset c = omega arith
 
-add-put : tie.Need-add-put Inv-loop μ-loop
-add-put c = omega (arith, c .before .before .before .before .before .before .before .before .before .before .before .before .before .before .pre .0 .most, c .before .before .before .before .before .before .before .before .before .before .before .before .before .before .pre .1)
+add-offset : tie.Need-add-offset Inv-loop μ-loop
+add-offset c =
+    let s = start (turn (c .before .before .before) .before .before) in
+    omega (arith, s .pre .0 .most, s .pre .1)
 
-add-put-2 : tie.Need-add-put-2 Inv-loop μ-loop
-add-put-2 c = omega (arith, c .before .before .before .before .before .before .before .before .before .before .before .before .before .before .pre .0 .most, c .before .before .before .before .before .before .before .before .before .before .before .before .before .before .pre .1)
+add-offset-2 : tie.Need-add-offset-2 Inv-loop μ-loop
+add-offset-2 c =
+    let s = start (turn (c .before .before .before) .before .before) in
+    omega (arith, s .pre .0 .most, s .pre .1)
 
 sub-put : tie.Need-sub-put Inv-loop μ-loop
 sub-put c =
-    let t = c .before .before .before .before .before .before .before in
-    row-later (base (t .before .before)) (t .before .loop .inv .2) (t .loop-test .taken) (c .before .before .before .point-row .kept .0) (c .before .before .before .point-row .ensures .0)
+    let call = c .before .before .before .before .before in
+    let t = turn call in
+    row-later (base (t .before .before)) (t .before .loop .inv .2) (t .loop-test .taken) (call .point-row .kept .0) (call .point-row .ensures .0)
 
-cast-put-2 : tie.Need-cast-put-2 Inv-loop μ-loop
-cast-put-2 c =
-    let t = c .before .before .before .before .before .before .before in
+cast-put : tie.Need-cast-put Inv-loop μ-loop
+cast-put c =
+    let call = c .before .before .before .before .before in
+    let t = turn call in
     omega (
       arith,
-      row-size-after (base (t .before .before)) (t .before .loop .inv .2) (t .loop-test .taken) (c .before .before .before .point-row .kept .0) (c .before .before .before .point-row .ensures .0),
-      c .before .before .before .before .before .before .before .before .before .before .before .before .before .before .pre .0 .most,
+      row-size-after (base (t .before .before)) (t .before .loop .inv .2) (t .loop-test .taken) (call .point-row .kept .0) (call .point-row .ensures .0),
+      start (t .before .before) .pre .0 .most,
     )
 
 put-requires-2 : tie.Need-put-requires-2 Inv-loop μ-loop
@@ -98,8 +111,8 @@ loop-less c = omega arith
 
 loop-again : tie.Need-loop-again Inv-loop μ-loop
 loop-again c =
-    let call = c .before .before .before .before .before .before in
-    let t = call .before .before .before .before in (
+    let call = c .before .before .before .before .before .before .before .before in
+    let t = turn call in (
       omega arith,
       call .point-row .ensures .1,
       row-more (base (t .before .before)) (t .before .loop .inv .2) (t .loop-test .taken) (call .point-row .kept .0) (call .point-row .ensures .0) _ (c .before .before .put2 .ensures),
@@ -110,7 +123,7 @@ same-length c = row-size (base (c .before .before)) (c .before .loop .inv .2)
 
 returns : tie.Need-returns Inv-loop μ-loop
 returns c =
-    let e : c .before .loop .i ≡ c .before .before .before .before .before .before .before .args .n = omega arith in
+    let e : c .before .loop .i ≡ start (c .before .before) .args .n = omega arith in
     row-all (base (c .before .before)) _ _ (rw e at (c .before .loop .inv .2))
 
 pub points-spec : {M : Type 1} → statement M
@@ -124,11 +137,11 @@ points-spec =
     put-requires
     loop-holds
     point-row-requires
-    cast-put
-    add-put
-    add-put-2
+    cast-offset
+    add-offset
+    add-offset-2
     sub-put
-    cast-put-2
+    cast-put
     put-requires-2
     add-i
     loop-less

@@ -9,7 +9,7 @@ cast-points c = search needs
 
 points-requires : tie.Need-points-requires
 points-requires c κs =
-    let (a, (s, t)) = c .before .before .before .before .before .pre in
+    let (a, (s, t)) = c .before .before .before .pre in
     (ready-points a s t, used-fits a)
 
 same-length : tie.Need-same-length
@@ -17,7 +17,7 @@ same-length c = search needs
 
 returns : tie.Need-returns
 returns c =
-    let (a, (s, t)) = c .before .before .before .before .before .before .before .before .pre in
+    let (a, (s, t)) = c .before .before .before .before .before .before .pre in
     rw (points-made a s t) at (c .before .before .points .ensures)
 
 pub vertex-neighbours-spec : {M : Type 1} → statement M

@@ -13,10 +13,10 @@ use Rattle.relations.proofs.points.write_met.Tie as tie
 use Rattle.relations.proofs.points.write_touched.Reads as write-touched-reads
 
 abbrev Inv-loop : tie.InvT-loop
-Inv-loop book₀ met touched stamp groups dst at₀ g₀ book at g = (g ≤ groups) × (length book ≡ length book₀) × Written book₀ dst (keep (bears met stamp) (upTo (g * 32))) at book
+Inv-loop book₀ met touched stamp groups dst g₀ book at g = (g ≤ groups) × (length book ≡ length book₀) × Written book₀ (dst .0) (keep (bears met stamp) (upTo (g * 32))) (at .0) book
 
 abbrev μ-loop : tie.MeasureT-loop
-μ-loop book₀ met touched stamp groups dst at₀ g₀ book at g = groups - g
+μ-loop book₀ met touched stamp groups dst g₀ book at g = groups - g
 
 loop-holds : tie.Need-loop-holds Inv-loop μ-loop
 loop-holds c = (omega arith, refl, unfold upTo keep in written-none _ _ _ refl)

@@ -7,26 +7,26 @@ use native.Mathlib.Omega.{arith}
 use Rattle.relations.proofs.words.start_of.Statement.{statement}
 use Rattle.relations.proofs.words.start_of.Tie as tie
 
-add-result : tie.Need-add-result
-add-result c = search needs
+add-start : tie.Need-add-start
+add-start c = search needs
 
-add-result-2 : tie.Need-add-result-2
-add-result-2 c = search needs
+add-start-2 : tie.Need-add-start-2
+add-start-2 c = search needs
 
-add-result-3 : tie.Need-add-result-3
-add-result-3 c = search needs
+add-start-3 : tie.Need-add-start-3
+add-start-3 c = search needs
 
-mul-result : tie.Need-mul-result
-mul-result c = search needs
+mul-start : tie.Need-mul-start
+mul-start c = search needs
 
-shared-slice-read-result : tie.Need-shared-slice-read-result
-shared-slice-read-result c = search needs
+shared-slice-read-start : tie.Need-shared-slice-read-start
+shared-slice-read-start c = search needs
 
-cast-result : tie.Need-cast-result
-cast-result c = omega (arith, c .shared-slice-known .given (c .before .args .rows + c .before .args .i))
+cast-start : tie.Need-cast-start
+cast-start c = omega (arith, c .shared-slice-known .given (c .before .args .rows .0 + c .before .args .i))
 
-add-result-4 : tie.Need-add-result-4
-add-result-4 c = omega (arith, c .shared-slice-known .given (c .before .args .rows + c .before .args .i))
+add-start-4 : tie.Need-add-start-4
+add-start-4 c = omega (arith, c .shared-slice-known .given (c .before .args .rows .0 + c .before .args .i))
 
 returns : tie.Need-returns
 unfolding startOf
@@ -36,11 +36,11 @@ pub start-of-spec : {M : Type 1} → statement M
 start-of-spec =
     tie.close
     (tie.spec
-    add-result
-    add-result-2
-    add-result-3
-    mul-result
-    shared-slice-read-result
-    cast-result
-    add-result-4
+    add-start
+    add-start-2
+    add-start-3
+    mul-start
+    shared-slice-read-start
+    cast-start
+    add-start-4
     returns)
