@@ -12,7 +12,7 @@ use Rattle.rules.proofs.Keep.{keep-short}
 use Rattle.rules.proofs.First.{keep-append}
 use Rattle.rules.proofs.Slices.{take-front, drop-later}
 use Rattle.relations.specs.Words.{range, Written}
-use Rattle.relations.proofs.Ranges.{range-last, upTo-split}
+use Rattle.relations.proofs.Ranges.{range-last, range-split, upTo-split}
 
 pub written-none : (ws : List ℕ) (dst at : ℕ) → at ≡ dst → Written ws dst [] at ws
 written-none ws dst at e = record {
@@ -71,3 +71,7 @@ module _ (p : ℕ → Bool) {ws : List ℕ} {dst at : ℕ} {vs : List ℕ} where
   pub kept-range : (a n : ℕ) → Written ws dst (keep p (upTo a)) at vs → {r : ℕ} {us : List ℕ}
       → Written vs at (keep p (range a n)) r us → Written ws dst (keep p (upTo (a + n))) r us
   kept-range a n w m = rw (upTo-split a n, keep-append p (upTo a) (range a n)) (written-then w m)
+
+  pub kept-later : (a n m : ℕ) → Written ws dst (keep p (range a n)) at vs → {r : ℕ} {us : List ℕ}
+      → Written vs at (keep p (range (a + n) m)) r us → Written ws dst (keep p (range a (n + m))) r us
+  kept-later a n m w x = rw (range-split a n m, keep-append p (range a n) (range (a + n) m)) (written-then w x)

@@ -15,6 +15,11 @@ unfolding range
 range-last a zero = rw add-zero
 range-last a (suc n) = ap (λ (r : List ℕ). a ∷ r) (range-last (suc a) n ∙ rw (suc-add, add-suc))
 
+pub range-split : (a n m : ℕ) → range a (n + m) ≡ range a n ++ range (a + n) m
+unfolding range
+range-split a zero m = rw (zero-add, add-zero)
+range-split a (suc n) m = rw (suc-add, add-suc, ← suc-add) (ap (λ (r : List ℕ). a ∷ r) (range-split (suc a) n m))
+
 pub length-range : (a n : ℕ) → length (range a n) ≡ n
 unfolding range
 length-range a zero = refl

@@ -1,22 +1,27 @@
--- The invariant: the cells that are left to stamp from the loop's place give what there is to stamp in all.
-use mathlib.Core.Path.{refl}
-use Prim.Native.Nat.{ℕ, _+_, _-_, _<_}
+-- The invariant: the vertices of the cells that the words before the loop's place name are met.
+use mathlib.Core.Path.{_≡_}
+use Prim.Native.Nat.{ℕ, _+_, _-_, _≤_, _<_}
 use lib.ListN.{getD}
+use lib.Seq.{slice, slice-empty}
+use lib.Dec.{ltb}
 use denote.Ref.{now}
 use native.Mathlib.Omega.{arith}
+use borrow.Author.Tests.{ltb-true}
 use Rattle.relations.specs.Words.{rowAt}
+use Rattle.relations.specs.Points.{gathered, Met}
 use Rattle.relations.proofs.Placed.{start-rises, start-fit, row-slice}
-use Rattle.relations.proofs.Stamps.{Gathering, gathering-known, gathering-step, gathering-met, gathering-touched}
+use Rattle.relations.proofs.Stamps.{gathered-none, gathered-more, met-none, met-then, slice-all}
 use Rattle.relations.proofs.points.meet_all.Statement.{statement}
 use Rattle.relations.proofs.points.meet_all.Tie as tie
 use Rattle.relations.proofs.points.meet.Reads as meet-reads
 use Rattle.relations.proofs.words.start_of.Reads as start-of-reads
 
 abbrev Inv-loop : tie.InvT-loop
-Inv-loop book met₀ touched₀ stamp cells n from to met touched p = Gathering book met₀ touched₀ (rowAt book (cells .0) n) stamp n from to met touched p
+Inv-loop book met₀ touched₀ blocks₀ stamp cells n from to met touched blocks p = (from ≤ p) × (p ≤ to)
+    × Met met₀ touched₀ blocks₀ stamp (gathered (rowAt book (cells .0) n) (slice from p book)) met touched blocks
 
 abbrev μ-loop : tie.MeasureT-loop
-μ-loop book met₀ touched₀ stamp cells n from to met touched p = to - p
+μ-loop book met₀ touched₀ blocks₀ stamp cells n from to met touched blocks p = to - p
 
 module _ (c : tie.In-loop Inv-loop μ-loop) where
   abbrev start : tie.Start Inv-loop μ-loop
@@ -27,10 +32,10 @@ module _ (c : tie.In-loop Inv-loop μ-loop) where
   cell = getD (now (start .args .book)) (c .before .loop .p) 0
 
   known : cell < start .args .n
-  known = gathering-known (c .before .loop .inv) (start .pre .1 .0) (c .loop-test .taken)
+  known = ltb-true _ _ (slice-all _ _ _ (c .before .loop .inv .0) (λ x. ltb x (start .args .n)) (start .args .to .0) (c .loop-test .taken) (start .pre .1 .0) (start .pre .1 .1 .1 .0))
 
 loop-holds : tie.Need-loop-holds Inv-loop μ-loop
-loop-holds c = record { low = omega arith; high = omega arith; left = refl; groups = refl; below = c .before .pre .1 .1 .1 .0 }
+loop-holds c = (omega arith, omega arith, rw (slice-empty, gathered-none) (met-none _ _ _ _))
 
 mul-c : tie.Need-mul-c Inv-loop μ-loop
 mul-c c = omega arith
@@ -52,9 +57,9 @@ start-of-requires-2 c κs = (omega (arith, start (c .before .before) .pre .1 .1 
 
 meet-requires : tie.Need-meet-requires Inv-loop μ-loop
 meet-requires c κs =
-    let t = c .before .before .before .before .before in
+    let t = c .before .before .before .before .before .before in
     let r = start t .pre .1 .1 .0 in
-    rw (c .before .before .before .start-of .ensures, c .before .before .start-of2 .ensures) (
+    rw (c .before .before .before .before .start-of .ensures, c .before .before .before .start-of2 .ensures) (
       start-rises r (cell t) (cell t + 1) (omega arith) (omega (arith, known t)),
       (
         start-fit r (cell t + 1) (omega (arith, known t)),
@@ -70,18 +75,21 @@ loop-less c = omega arith
 
 loop-again : tie.Need-loop-again Inv-loop μ-loop
 loop-again c =
-    let second = c .before .before .before in
+    let second = c .before .before .before .before in
     let first = second .before in
     let t = first .before .before in
-    gathering-step (t .before .loop .inv) (start t .pre .1 .0) (t .loop-test .taken) _ _
-    (rw (first .start-of .ensures, second .start-of2 .ensures, row-slice _ _ _ (cell t)) at (c .meet .ensures .0))
-    (rw (first .start-of .ensures, second .start-of2 .ensures, row-slice _ _ _ (cell t)) at (c .meet .ensures .1))
+    let l = t .before .loop in
+    let a = start t .args in (
+      omega arith,
+      omega arith,
+      rw (gathered-more (now (a .book)) (a .from .0) (l .p) (l .inv .0) (rowAt (now (a .book)) (a .cells .0) (a .n)) (omega arith))
+          (met-then (l .inv .2) (rw (first .start-of .ensures, second .start-of2 .ensures, row-slice _ _ _ (cell t)) at (c .meet .ensures))),
+    )
 
 returns : tie.Need-returns Inv-loop μ-loop
-returns c = (
-  gathering-met (c .before .loop .inv) (c .before .before .before .pre .1 .0) (c .loop-test .left),
-  gathering-touched (c .before .loop .inv) (c .before .before .before .pre .1 .0) (c .loop-test .left),
-)
+returns c =
+    let e : c .before .loop .p ≡ c .before .before .before .args .to .0 = omega arith in
+    rw e at (c .before .loop .inv .2)
 
 pub meet-all-spec : {M : Type 1} → statement M
 meet-all-spec =

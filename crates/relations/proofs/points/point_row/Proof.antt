@@ -1,15 +1,13 @@
 -- The cells at i are stamped, i is not, and the vertices that bear the stamp are the row of the rules.
-use Prim.Native.Nat.{ℕ, _+_}
-use mathlib.Core.Path.{_≡_}
-use mathlib.Core.List.{List}
+use Prim.Native.Nat.{_+_}
 use denote.Ref.{now}
 use native.Mathlib.Omega.{arith}
 use lib.Dec.{ltb}
 use borrow.Author.Tests.{ltb-true, lt-ltb}
 use Rattle.rules.proofs.Tests.{all-weaker}
-use Rattle.relations.specs.Points.{stamped, groupsOf}
+use Rattle.relations.specs.Points.{Met}
 use Rattle.relations.proofs.Placed.{start-rises, start-fit, rows-within, row-slice}
-use Rattle.relations.proofs.PointRows.{around, point-covered, point-row-is, point-fresh}
+use Rattle.relations.proofs.PointRows.{around, point-groups, point-blocks, point-row-is, point-fresh}
 use borrow.Author.Needs.{needs}
 use Rattle.relations.proofs.points.point_row.Statement.{statement}
 use Rattle.relations.proofs.points.point_row.Tie as tie
@@ -19,21 +17,14 @@ use Rattle.relations.proofs.words.start_of.Reads as start-of-reads
 
 -- the function's entry, from the place after the stamps
 abbrev start : tie.After-meet-all → tie.Start
-start c = c .before .before .before .before .before .before .before .before .before
+start c = c .before .before .before .before .before .before .before .before .before .before
 
--- the vertices of the cells at i
-abbrev vertices : tie.After-meet-all → List ℕ
-vertices c = around (start c .pre .0) (start c .args .i) (start c .pre .1 .1 .0)
-
-met-is : (c : tie.After-meet-all) → c .meet-all .last .1 .0 ≡ stamped (now (start c .args .met)) (start c .args .i + 1) (vertices c)
+met-is : (c : tie.After-meet-all) → let a = start c .args in
+    Met (now (a .met)) (now (a .touched)) (now (a .blocks)) (a .i + 1) (around (start c .pre .0) (a .i) (start c .pre .1 .1 .0))
+    (c .meet-all .last .1 .0) (c .meet-all .last .1 .1 .0) (c .meet-all .last .1 .1 .1 .0)
 met-is c =
-    let second = c .before .before .before .before in
-    rw (second .before .before .start-of .ensures, second .start-of2 .ensures, row-slice _ _ _ (start c .args .i)) at (c .meet-all .ensures .0)
-
-touched-is : (c : tie.After-meet-all) → c .meet-all .last .1 .1 .0 ≡ stamped (now (start c .args .touched)) (start c .args .i + 1) (groupsOf (vertices c))
-touched-is c =
-    let second = c .before .before .before .before in
-    rw (second .before .before .start-of .ensures, second .start-of2 .ensures, row-slice _ _ _ (start c .args .i)) at (c .meet-all .ensures .1)
+    let second = c .before .before .before .before .before in
+    rw (second .before .before .start-of .ensures, second .start-of2 .ensures, row-slice _ _ _ (start c .args .i)) at (c .meet-all .ensures)
 
 start-of-requires : tie.Need-start-of-requires
 start-of-requires c κs = search needs
@@ -49,7 +40,7 @@ add-stamp c = search needs
 
 meet-all-requires : tie.Need-meet-all-requires
 meet-all-requires c κs =
-    let second = c .before .before .before in
+    let second = c .before .before .before .before in
     let s = second .before .before .before .before .before in
     let w = s .pre .0 .through in
     let i = s .args .i in
@@ -78,10 +69,13 @@ add-write-met c = search needs
 
 write-met-requires : tie.Need-write-met-requires
 write-met-requires c κs =
-    let m = c .before .before .before in
+    let m = c .before .before .before .before in
     let q = start m .pre in (
       omega (arith, q .0 .most),
-      (point-covered (q .0) (start m .args .i) (q .1 .1 .0) (q .1 .0) _ _ (met-is m) (touched-is m), q .1 .1 .1),
+      (
+        point-groups (q .0) (start m .args .i) (q .1 .1 .0) (q .1 .0) (met-is m),
+        (point-blocks (q .0) (start m .args .i) (q .1 .1 .0) (q .1 .0) (met-is m), q .1 .1 .1),
+      ),
     )
 
 same-length : tie.Need-same-length
@@ -89,10 +83,10 @@ same-length c = search needs
 
 returns : tie.Need-returns
 returns c =
-    let m = c .before .before .before .before .before .before in
+    let m = c .before .before .before .before .before .before .before in
     let q = start m .pre in (
-      rw (point-row-is (q .0) (start m .args .i) (q .1 .1 .0) (q .1 .0) _ _ (met-is m) (touched-is m)) at (c .before .before .write-met .ensures),
-      point-fresh (q .0) (start m .args .i) (q .1 .1 .0) (q .1 .0) _ _ (met-is m) (touched-is m),
+      rw (point-row-is (q .0) (start m .args .i) (q .1 .1 .0) (q .1 .0) (met-is m)) at (c .before .before .write-met .ensures),
+      point-fresh (q .0) (start m .args .i) (q .1 .1 .0) (q .1 .0) (met-is m),
     )
 
 pub point-row-spec : {M : Type 1} → statement M

@@ -17,10 +17,10 @@ use Rattle.relations.proofs.points.point_row.Reads as point-row-reads
 use Rattle.relations.proofs.words.put.Reads as put-reads
 
 abbrev Inv-loop : tie.InvT-loop
-Inv-loop book₀ own n back v dst met₀ touched₀ first at₀ i₀ book met touched at i = (i ≤ n) × Fresh met touched i × Filled (nearRow book₀ (own .0) n (back .0) v) n (dst .0) book₀ book i (at .0)
+Inv-loop book₀ own n back v dst met₀ touched₀ blocks₀ first at₀ i₀ book met touched blocks at i = (i ≤ n) × Fresh met touched blocks i × Filled (nearRow book₀ (own .0) n (back .0) v) n (dst .0) book₀ book i (at .0)
 
 abbrev μ-loop : tie.MeasureT-loop
-μ-loop book₀ own n back v dst met₀ touched₀ first at₀ i₀ book met touched at i = n - i
+μ-loop book₀ own n back v dst met₀ touched₀ blocks₀ first at₀ i₀ book met touched blocks at i = n - i
 
 -- the function's entry, from the place before the loop
 abbrev start : tie.After-slice-known2 Inv-loop μ-loop → tie.Start Inv-loop μ-loop
@@ -28,7 +28,7 @@ start e = e .before .before .before .before .before .before
 
 -- the loop's turn, from the place after its call
 abbrev turn : tie.After-point-row Inv-loop μ-loop → tie.In-loop Inv-loop μ-loop
-turn call = call .before .before .before .before
+turn call = call .before .before .before .before .before
 
 -- what decides the rows stands before dst
 base : (e : tie.After-slice-known2 Inv-loop μ-loop) → let a = start e .args in
@@ -55,13 +55,13 @@ put-requires c κs = tt
 loop-holds : tie.Need-loop-holds Inv-loop μ-loop
 loop-holds c = (
   omega arith,
-  record { vertices = length-replicate {A = ℕ} 8192 0; groups = length-replicate {A = ℕ} 256 0; low = λ j. omega (arith, none-yet 8192 j) },
+  record { vertices = length-replicate {A = ℕ} 8192 0; groups = length-replicate {A = ℕ} 512 0; wide = length-replicate {A = ℕ} 32 0; low = λ j. omega (arith, none-yet 8192 j) },
   row-start (base c),
 )
 
 point-row-requires : tie.Need-point-row-requires Inv-loop μ-loop
 point-row-requires c κs =
-    let t = c .before .before .before in
+    let t = c .before .before .before .before in
     let b = base (t .before .before) in
     let l = t .before .loop in
     let z = row-size b (l .inv .2) in

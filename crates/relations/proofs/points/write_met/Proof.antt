@@ -1,4 +1,4 @@
--- The invariant: the vertices of the groups so far that bear the stamp are written.
+-- The invariant: the vertices of the blocks so far that bear the stamp are written.
 use mathlib.Core.Path.{_≡_, refl, _∙_}
 use Prim.Native.Nat.{_+_, _*_, _-_, _≤_}
 use lib.ListN.{length}
@@ -10,26 +10,26 @@ use Rattle.relations.specs.Points.{bears}
 use Rattle.relations.proofs.Appended.{written-none, kept-below, kept-range}
 use Rattle.relations.proofs.points.write_met.Statement.{statement}
 use Rattle.relations.proofs.points.write_met.Tie as tie
-use Rattle.relations.proofs.points.write_touched.Reads as write-touched-reads
+use Rattle.relations.proofs.points.write_block.Reads as write-block-reads
 
 abbrev Inv-loop : tie.InvT-loop
-Inv-loop book₀ met touched stamp groups dst g₀ book at g = (g ≤ groups) × (length book ≡ length book₀) × Written book₀ (dst .0) (keep (bears met stamp) (upTo (g * 32))) (at .0) book
+Inv-loop book₀ met touched blocks stamp n dst b₀ book at b = (b ≤ n) × (length book ≡ length book₀) × Written book₀ (dst .0) (keep (bears met stamp) (upTo (b * 256))) (at .0) book
 
 abbrev μ-loop : tie.MeasureT-loop
-μ-loop book₀ met touched stamp groups dst g₀ book at g = groups - g
+μ-loop book₀ met touched blocks stamp n dst b₀ book at b = n - b
 
 loop-holds : tie.Need-loop-holds Inv-loop μ-loop
 loop-holds c = (omega arith, refl, unfold upTo keep in written-none _ _ _ refl)
 
-write-touched-requires : tie.Need-write-touched-requires Inv-loop μ-loop
-write-touched-requires c κs =
+write-block-requires : tie.Need-write-block-requires Inv-loop μ-loop
+write-block-requires c κs =
     let t = c .before in
     let l = t .before .loop in
     let s = t .before .before .before in
-    (omega arith, (s .pre .1 .0, omega (arith, kept-below _ _ (l .inv .2), length-upTo (l .g * 32), s .pre .1 .1)))
+    (omega arith, (s .pre .1 .0, (s .pre .1 .1 .0, omega (arith, kept-below _ _ (l .inv .2), length-upTo (l .b * 256), s .pre .1 .1 .1))))
 
-add-g : tie.Need-add-g Inv-loop μ-loop
-add-g c = omega arith
+add-b : tie.Need-add-b Inv-loop μ-loop
+add-b c = omega arith
 
 loop-less : tie.Need-loop-less Inv-loop μ-loop
 loop-less c = omega arith
@@ -39,15 +39,15 @@ loop-again c =
     let call = c .before .before in
     let t = call .before .before in
     let l = t .before .loop in
-    let e : (l .g + 1) * 32 ≡ l .g * 32 + 32 = omega arith in
-    (omega arith, call .write-touched .kept .0 ∙ l .inv .1, rw e (kept-range _ (l .g * 32) 32 (l .inv .2) (call .write-touched .ensures)))
+    let e : (l .b + 1) * 256 ≡ l .b * 256 + 256 = omega arith in
+    (omega arith, call .write-block .kept .0 ∙ l .inv .1, rw e (kept-range _ (l .b * 256) 256 (l .inv .2) (call .write-block .ensures)))
 
 same-length : tie.Need-same-length Inv-loop μ-loop
 same-length c = c .before .loop .inv .1
 
 returns : tie.Need-returns Inv-loop μ-loop
 returns c =
-    let e : c .before .loop .g ≡ c .before .before .before .args .groups = omega arith in
+    let e : c .before .loop .b ≡ c .before .before .before .args .n = omega arith in
     rw e at (c .before .loop .inv .2)
 
 pub write-met-spec : {M : Type 1} → statement M
@@ -57,8 +57,8 @@ write-met-spec =
     Inv-loop
     μ-loop
     loop-holds
-    write-touched-requires
-    add-g
+    write-block-requires
+    add-b
     loop-less
     loop-again
     same-length

@@ -18,7 +18,7 @@ returns : tie.Need-returns
 returns c =
     let s = c .before .before .before in
     let a = s .args in
-    rw (untouched-none (now (a .met)) (now (a .touched)) (a .stamp) (a .g) (s .pre .1 .0) (c .if1 .taken)) (written-none _ _ _ refl)
+    rw (untouched-none 16 (now (a .met)) (now (a .touched)) (a .stamp) (a .g) (s .pre .1 .0) (c .if1 .taken)) (written-none _ _ _ refl)
 
 mul-write-group : tie.Need-mul-write-group
 mul-write-group c = search needs
