@@ -6,6 +6,7 @@
  *   'L' n, n bytes          load that file
  *   'M' d e, 'A' d e        make, ask
  *   'R' d e i               row
+ *   'T' d e                 every row of d→e until one is refused; behind the answer, for each row, its length and its words
  *   'W' n, n bytes          write to a buffer with these bytes
  *   'E', 'H'                Euler number, held count
  *   'C'                     a checksum only
@@ -74,7 +75,7 @@ int main(void) {
     while ((call = getchar()) != EOF) {
         struct lent bytes = lend(0);
         uint64_t out[2] = {OUT, OUT};
-        uint32_t given = 0, d, e, i;
+        uint32_t given = 0, d = 0, e = 0, i;
         uint32_t *words = (uint32_t *)at(book);
         size_t n = book.size / 4;
         switch (call) {
@@ -109,6 +110,13 @@ int main(void) {
             memcpy(out, &start, sizeof start), memcpy(out + 1, &count, sizeof count);
             break;
         }
+        case 'T': {
+            size_t start, count;
+            d = number(), e = number();
+            out[0] = out[1] = 0;
+            while (!(given = daybook_row(words, n, d, e, (uint32_t)out[0], &start, &count))) out[0]++, out[1] += count;
+            break;
+        }
         case 'W': {
             size_t length;
             memcpy(&length, out, sizeof length);
@@ -135,6 +143,13 @@ int main(void) {
         fwrite(&given, 4, 1, stdout);
         fwrite(out, 8, 2, stdout);
         fwrite(rest, 4, 3, stdout);
+        for (i = 0; call == 'T' && i < out[0]; i++) {
+            size_t start, count;
+            daybook_row(words, n, d, e, i, &start, &count);
+            uint32_t length = (uint32_t)count;
+            fwrite(&length, 4, 1, stdout);
+            fwrite(words + start, 4, count, stdout);
+        }
         fflush(stdout);
         free(bytes.whole);
     }

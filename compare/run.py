@@ -66,6 +66,16 @@ class Library:
             raise SystemExit("the library's program ended early")
         return struct.unpack("<IQQIII", answer)
 
+    def rows(self, d, e):
+        """Every row of a relation, as the row call hands them out one by one, and the number that refuses the next."""
+        number, count, indices = self.call(b"T" + struct.pack("<II", d, e))[:3]
+        words = struct.unpack("<%dI" % (count + indices), self.process.stdout.read(4 * (count + indices)))
+        out, at = [], 0
+        while at < len(words):
+            out.append(words[at + 1:at + 1 + words[at]])
+            at += 1 + words[at]
+        return number, out
+
 
 def checksum(words):
     return zlib.crc32(struct.pack("<%dI" % len(words), *words))

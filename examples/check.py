@@ -1,0 +1,255 @@
+"""Tests mesh.py: it makes the example files as they stand here, its pictures count the edges as the separate program
+does, and Gmsh files come out as the bytes written below, or with one line that says what is wrong.
+
+    python3 examples/check.py
+"""
+
+import os
+import subprocess
+import sys
+import tempfile
+from xml.dom import minidom
+
+HERE = os.path.dirname(os.path.abspath(__file__))
+sys.path.insert(0, os.path.join(os.path.dirname(HERE), "compare"))
+
+import reference as rules  # noqa: E402
+
+NAMES = ("t", "dam", "stack")
+T = bytes.fromhex("80040010 0000004006001001000c")
+TETRAHEDRON = bytes.fromhex("c0040008 00180040000020")
+
+# T with tags 3, 5, 7, 10, and a node that no triangle uses; a point and a line are passed by.
+T_2 = """$MeshFormat
+2.2 0 8
+$EndMeshFormat
+$PhysicalNames
+1
+2 1 "face"
+$EndPhysicalNames
+$Nodes
+5
+10 0 1 0
+3 0 0 0
+7 1 1 0
+5 1 0 0
+99 9 9 0
+$EndNodes
+$Elements
+4
+1 15 2 0 1 3
+2 1 2 0 1 3 5
+3 2 2 1 1 3 5 10
+4 2 0 5 7 10
+$EndElements
+"""
+T_4 = """$MeshFormat
+4.1 0 8
+$EndMeshFormat
+$Entities
+0 0 1 0
+1 0 0 0 1 1 0 0 0
+$EndEntities
+$Nodes
+2 5 3 99
+1 1 0 2
+3
+5
+0 0 0
+1 0 0
+2 1 1 3
+7
+10
+99
+1 1 0 1 1
+0 1 0 0 1
+9 9 0 9 9
+$EndNodes
+$Elements
+3 4 1 9
+0 1 15 1
+1 3
+1 1 1 1
+2 3 5
+2 1 2 2
+8 3 5 10
+9 5 7 10
+$EndElements
+"""
+# The paper's tetrahedron, vertices in the order 3 1 0 2, and one of its triangles, which is left out.
+SOLID_2 = """$MeshFormat
+2.2 0 8
+$EndMeshFormat
+$Nodes
+4
+1 0 0 0
+2 1 0 0
+3 0 1 0
+4 0 0.5 1e0
+$EndNodes
+$Elements
+2
+1 2 2 0 1 1 2 3
+2 4 2 0 1 4 2 1 3
+$EndElements
+"""
+SOLID_4 = """$MeshFormat
+4.1 0 8
+$EndMeshFormat
+$Nodes
+1 4 1 4
+3 1 0 4
+1
+2
+3
+4
+0 0 0
+1 0 0
+0 1 0
+0 0.5 1e0
+$EndNodes
+$Elements
+2 2 1 2
+2 1 2 1
+1 1 2 3
+3 1 4 1
+2 4 2 1 3
+$EndElements
+"""
+
+
+def run(*words):
+    """The exit code, and what was printed and said."""
+    done = subprocess.run([sys.executable, os.path.join(HERE, "mesh.py")] + list(words), stdout=subprocess.PIPE, stderr=subprocess.PIPE)
+    return done.returncode, done.stdout.decode(), done.stderr.decode()
+
+
+def demand(what, got, wanted):
+    if got != wanted:
+        sys.exit("examples: %s: %.300r, and not %.300r" % (what, got, wanted))
+
+
+def contents(*path):
+    with open(os.path.join(*path), "rb") as file:
+        return file.read()
+
+
+def put(path, data):
+    with open(path, "wb") as file:
+        file.write(data if isinstance(data, bytes) else data.encode())
+    return path
+
+
+def made(folder):
+    demand("make ends", run("make", "--to", folder)[0], 0)
+    for name in NAMES:
+        for kind in (".day", ".xy"):
+            demand(name + kind + " is what make writes", contents(folder, name + kind) == contents(HERE, name + kind), True)
+    demand("T", contents(folder, "t.day"), T)
+
+
+def incidence(day):
+    """N_0 to N_D, and how many edges touch one cell, two, and more, by the separate program."""
+    book = [0] * (1 << 18)
+    demand("load", rules.load(contents(day), book), (0, None))
+    D = book[0] >> 30
+    demand("ask", [rules.ask(book, d, e) for d, e in [(1, D)] + [(d, 0) for d in range(1, D)]], [0] * D)
+    frame = rules.Frame.of(book)
+    touched = [len(row) for row in frame.rows(1, D)]
+    kinds = {"one": touched.count(1), "two": touched.count(2), "more": sum(n > 2 for n in touched)}
+    return [frame.counts[d] for d in range(D + 1)], kinds
+
+
+def pictures(folder):
+    for name, euler in (("t", 1), ("dam", -1), ("stack", 1)):
+        day = os.path.join(HERE, name + ".day")
+        counts, kinds = incidence(day)
+        demand("Euler number of " + name, sum((-1) ** d * n for d, n in enumerate(counts)), euler)
+        for with_xy in (True, False):
+            svg = os.path.join(folder, name + ".svg")
+            words = ["--xy", os.path.join(HERE, name + ".xy")] if with_xy else []
+            demand("draw " + name, run("draw", day, svg, *words), (0, "", ""))
+            demand(name + ".svg is short", len(contents(svg)) < 500000, True)
+            page = minidom.parse(svg)
+            paths = {path.getAttribute("id"): path.getAttribute("d") for path in page.getElementsByTagName("path")}
+            demand("edges of %s by colour" % name, {kind: paths[kind].count("M") for kind in kinds}, kinds)
+            D = len(counts) - 1
+            if D == 2:
+                demand("cells of " + name, paths["cells"].count("Z"), counts[2])
+            title = "%s.day: D = %d, N₀ = %d, N₁ = %d, N%s = %d" % (name, D, counts[0], counts[1], "₂₃"[D - 2], counts[D])
+            texts = [text.firstChild.data for text in page.getElementsByTagName("text")]
+            demand("title of " + name, texts[0], title)
+            words = [text.split(": ")[1].split()[0] for text in texts[-3:]]
+            demand("legend of " + name, words, [str(kinds[kind]) for kind in ("one", "two", "more")])
+            if with_xy and name != "stack":
+                demand(name + ".svg is what draw writes", contents(svg) == contents(HERE, name + ".svg"), True)
+
+
+def refusals(folder):
+    """Every number that a file can be refused with, and files that are no help."""
+    day, svg = os.path.join(folder, "bad.day"), os.path.join(folder, "bad.svg")
+    many = (2 << 30 | 4 << 16 | 4097 << 3).to_bytes(4, "big")
+    for data, words in ((T[:3], "1"), (b"\0" + T[1:], "2"), (rules.file_bytes(2, 8193, []), "3"), (many, "4"),
+                        (T[:3] + b"\x11" + T[4:], "5"), (T + b"\0", "6"), (b"\x80\x03" + T[2:], "7, cell 0"),
+                        (rules.file_bytes(2, 4, [[0, 1, 3], [1, 1, 3]]), "8, cell 1"), (T[:-1] + b"\x0d", "9")):
+        demand("draw", run("draw", put(day, data), svg), (1, "", "refused %s\n" % words))
+    xy = os.path.join(folder, "bad.xy")
+    for text, words in (("0 0\n1 0\n1 1\n", "3 lines for 4 vertices"), ("0 0\n1\n1 1\n0 1\n", "a line is not two numbers"),
+                        ("0 0\n1 0\n1 x\n0 1\n", "a line is not two numbers"), ("0 0\n1 0\n1 nan\n0 1\n", "a line is not two numbers")):
+        demand("draw", run("draw", put(day, T), svg, "--xy", put(xy, text)), (1, "", "%s: %s\n" % (xy, words)))
+    demand("draw", run("draw", svg, svg), (1, "", "%s: No such file or directory\n" % svg))
+    demand("a refused picture is not written", os.path.exists(svg), False)
+
+
+def gmsh_files(folder):
+    msh, day, xy = [os.path.join(folder, "in." + kind) for kind in ("msh", "day", "xy")]
+    square, solid = b"0 0\n1 0\n1 1\n0 1\n", b"0 0\n1 0\n0 1\n0 0.5\n"
+    for text, data, places in ((T_2, T, square), (T_4, T, square), (SOLID_2, TETRAHEDRON, solid), (SOLID_4, TETRAHEDRON, solid),
+                               (T_2.replace("\n", "\r\n"), T, square)):
+        D, points, count = data[0] >> 6, 4, 2 if data == T else 1
+        said = "%s: D = %d, %d vertices, %d cells\n" % (day, D, points, count)
+        demand("from-msh", run("from-msh", put(msh, text), day, "--xy", xy), (0, said, ""))
+        demand("the day file", contents(day), data)
+        demand("the places", contents(xy), places)
+        os.remove(day)
+
+    def many(points, cells):
+        nodes = ["%d %d 0 0" % (v + 1, v) for v in range(points)]
+        elements = ["%d 2 0 %s" % (c + 1, " ".join(str((3 * c + k) % points + 1) for k in range(3))) for c in range(cells)]
+        return "$MeshFormat\n2.2 0 8\n$EndMeshFormat\n$Nodes\n%d\n%s\n$EndNodes\n$Elements\n%d\n%s\n$EndElements\n" % (
+            points, "\n".join(nodes), cells, "\n".join(elements))
+
+    shape = "the nodes or elements are not as format %s has them, or are cut short"
+    only = "; a day file has straight triangles or tetrahedra only"
+    for text, words in ((many(8193, 2731), "8193 vertices are too many; a day file has at most 8192"),
+                        (many(6, 4097), "4097 cells are too many; a day file has at most 4096"),
+                        (T_2.replace("2.2 0", "2.2 1"), "a binary file is not read; save it as ASCII"),
+                        (T_4.replace("4.1 0", "4.1 1"), "a binary file is not read; save it as ASCII"),
+                        (T_4.replace("4.1 0", "4 0"), "format 4 is not read, only 2.2 and 4.1"),
+                        ("solid", "this is not a Gmsh file: it does not begin with $MeshFormat"),
+                        ("", "this is not a Gmsh file: it does not begin with $MeshFormat"),
+                        (T_2.replace("3 2 2 1 1 3 5 10\n4 2 0 5 7 10", "3 1 0 3 5\n4 1 0 5 7"), "there are no triangles and no tetrahedra"),
+                        (T_2.replace("4 2 0 5 7 10", "4 9 0 3 5 7 10 99 3"), "element 4 is a triangle of second order" + only),
+                        (T_4.replace("2 1 2 2", "2 1 3 2"), "element 8 is a quadrangle" + only),
+                        (T_2.replace("4 2 0 5 7 10", "4 2 0 5 7 11"), "element 4 does not name 3 nodes of the file"),
+                        (T_2.replace("4 2 0 5 7 10", "4 2 0 5 7"), "element 4 does not name 3 nodes of the file"),
+                        (T_4.replace("9 5 7 10", "9 5 7 5"), "element 9 names a node twice"),
+                        (T_2.replace("7 1 1 0", "7 1 one 0"), shape % "2.2"), (T_2[:T_2.index("7 1 1 0")], shape % "2.2"),
+                        (T_4.replace("9 5 7 10\n", ""), shape % "4.1"), (T_4[:T_4.index("$Elements")], shape % "4.1")):
+        demand("from-msh", run("from-msh", put(msh, text), day), (1, "", "%s: %s\n" % (msh, words)))
+    demand("a refused mesh is not written", os.path.exists(day), False)
+    demand("the largest mesh", run("from-msh", put(msh, many(8192, 4096)), day)[0], 0)
+    demand("its bytes", contents(day), rules.file_bytes(2, 8192, [[(3 * c + k) % 8192 for k in range(3)] for c in range(4096)]))
+
+
+def main():
+    with tempfile.TemporaryDirectory() as folder:
+        made(folder)
+        pictures(folder)
+        refusals(folder)
+        gmsh_files(folder)
+    print("examples: the files are as they are made, the pictures count right, Gmsh files are read or refused as they should be")
+
+
+if __name__ == "__main__":
+    main()

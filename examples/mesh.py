@@ -1,0 +1,110 @@
+#!/usr/bin/env python3
+"""The example meshes: writes their day files, turns a Gmsh file into a day file, and draws a day file.
+
+    python3 examples/mesh.py make
+    python3 examples/mesh.py from-msh IN.msh OUT.day [--xy OUT.xy]
+    python3 examples/mesh.py draw FILE.day [--xy FILE.xy] OUT.svg
+
+A day file has no coordinates. They stand beside it, one line "x y" for each vertex. Where there are none, `draw` lays the
+mesh out by how many edges part two vertices, so that what is far apart along the mesh is far apart in the picture.
+"""
+
+import argparse
+import math
+import os
+import sys
+
+HERE = os.path.dirname(os.path.abspath(__file__))
+sys.path.insert(0, os.path.join(os.path.dirname(HERE), "compare"))
+
+import msh  # noqa: E402
+import picture  # noqa: E402
+import reference as rules  # noqa: E402
+import shapes  # noqa: E402
+
+
+def read(path):
+    try:
+        with open(path, "rb") as file:
+            return file.read()
+    except OSError as fault:
+        sys.exit("%s: %s" % (path, fault.strerror))
+
+
+def write(path, data):
+    try:
+        with open(path, "wb") as file:
+            file.write(data if isinstance(data, bytes) else data.encode())
+    except OSError as fault:
+        sys.exit("%s: %s" % (path, fault.strerror))
+
+
+def lines_of(places):
+    return "".join("%s %s\n" % (x, y) for x, y in places)
+
+
+def make(folder):
+    for shape in (shapes.t, shapes.dam, shapes.stack):
+        mesh, places = shape()
+        path = os.path.join(folder, shape.__name__)
+        write(path + ".day", rules.file_bytes(*mesh))
+        write(path + ".xy", lines_of(places))
+        print("%s.day: D = %d, %d vertices, %d cells" % (shape.__name__, mesh[0], mesh[1], len(mesh[2])))
+
+
+def from_msh(source, day, xy):
+    try:
+        mesh, places = msh.mesh_of(read(source))
+    except msh.Fault as fault:
+        sys.exit("%s: %s" % (source, fault))
+    write(day, rules.file_bytes(*mesh))
+    if xy:
+        write(xy, lines_of(places))
+    print("%s: D = %d, %d vertices, %d cells" % (day, mesh[0], mesh[1], len(mesh[2])))
+
+
+def places_of(path, points):
+    """The coordinates that stand beside a day file."""
+    try:
+        places = [tuple(map(float, line.split())) for line in read(path).decode().splitlines()]
+        right = all(len(p) == 2 and all(map(math.isfinite, p)) for p in places)
+    except ValueError:
+        right = False
+    if not right:
+        sys.exit("%s: a line is not two numbers" % path)
+    if len(places) != points:
+        sys.exit("%s: %d lines for %d vertices" % (path, len(places), points))
+    return places
+
+
+def draw(day, xy, svg):
+    number, cell, mesh = rules.read_file(read(day))
+    if number:
+        sys.exit("refused %d" % number + (", cell %d" % cell if cell is not None else ""))
+    write(svg, picture.drawing(os.path.basename(day), mesh, places_of(xy, mesh[1]) if xy else None))
+
+
+def main():
+    parser = argparse.ArgumentParser(description=__doc__, formatter_class=argparse.RawDescriptionHelpFormatter)
+    commands = parser.add_subparsers(dest="command", required=True)
+    making = commands.add_parser("make", help="write the example files")
+    making.add_argument("--to", default=HERE, help="a folder other than the script's own")
+    turning = commands.add_parser("from-msh", help="a Gmsh file's tetrahedra, or else its triangles, as a day file")
+    turning.add_argument("msh")
+    turning.add_argument("day")
+    turning.add_argument("--xy", help="where to write the vertices' x and y")
+    showing = commands.add_parser("draw", help="a day file as an SVG picture")
+    showing.add_argument("day")
+    showing.add_argument("svg")
+    showing.add_argument("--xy", help="the vertices' x and y")
+    given = parser.parse_args()
+    if given.command == "make":
+        make(given.to)
+    elif given.command == "from-msh":
+        from_msh(given.msh, given.day, given.xy)
+    else:
+        draw(given.day, given.xy, given.svg)
+
+
+if __name__ == "__main__":
+    main()

@@ -1,0 +1,152 @@
+"""A mesh as an SVG picture, its edges coloured by how many cells they touch."""
+
+import math
+from xml.sax.saxutils import escape
+
+import layout
+import reference as rules
+import shapes
+
+KINDS = ("one", "two", "more")
+COLOURS = {"one": "#d4570a", "two": "#5a7891", "more": "#7b2d9c"}
+WORDS = {"one": ("border, ", "1 cell"), "two": ("inside, ", "2 cells"), "more": ("branching, ", "3 or more cells")}
+INK, CELL, PAPER = "#22303c", "#e6eef5", "#ffffff"
+FONT = "DejaVu Sans, Verdana, Helvetica, Arial, sans-serif"
+
+
+def edges_of(D, cells):
+    """(edge, number of cells that it touches), in the library's order; for D = 1 the cells are the edges."""
+    touched = {}
+    for cell in cells:
+        for a, b in rules.choose(2, sorted(cell)):
+            touched[a, b] = touched.get((a, b), 0) + 1
+    if D == 1:
+        return [(edge, touched[edge]) for edge in (tuple(sorted(cell)) for cell in cells)]
+    return list(touched.items())
+
+
+def kind_of(count):
+    return KINDS[min(count, 3) - 1]
+
+
+def spread(mesh, edges):
+    """Places for a mesh without coordinates. One that cannot lie flat is given depth."""
+    flat = mesh[0] < 3 and all(count < 3 for _, count in edges)
+    return layout.spread(mesh[1], [edge for edge, _ in edges], 2 if flat else 3)
+
+
+class Picture:
+    """The lines of the picture so far. The edges of one colour are one path, and so are the cells, to keep it short."""
+
+    def __init__(self, name, mesh, places):
+        self.D, self.points, self.cells = mesh
+        self.edges = edges_of(self.D, self.cells)
+        self.fit(spread(mesh, self.edges) if places is None else places)
+        title = "%s: D = %d, N₀ = %d, N₁ = %d" % (name, self.D, self.points, len(self.edges))
+        if self.D > 1:
+            title += ", N%s = %d" % ("₂₃"[self.D - 2], len(self.cells))
+        size = (self.width, self.height)
+        self.out = ['<svg xmlns="http://www.w3.org/2000/svg" width="%d" height="%d" viewBox="0 0 %d %d">' % (size + size),
+                    "<title>%s</title>" % escape(title),
+                    '<rect width="100%%" height="100%%" fill="%s"/>' % PAPER,
+                    '<g font-family="%s" text-anchor="middle" stroke-linecap="round" stroke-linejoin="round" fill="none">' % FONT]
+        self.text(self.width / 2, 32, title, 19, INK)
+
+    def fit(self, places):
+        """The vertices' places on the paper."""
+        xs, ys = [[p[k] for p in places] or [0] for k in (0, 1)]
+        left, top, wide, high = min(xs), max(ys), max(xs) - min(xs), max(ys) - min(ys)
+        tall = 560 if self.D == 3 else 400
+        scale = min((room / size for room, size in ((900, wide), (tall, high)) if size > 0), default=1)
+        self.width, self.height = max(700, round(wide * scale) + 60), round(high * scale) + 142
+        aside = (self.width - wide * scale) / 2
+        self.at = [(aside + scale * (x - left), 70 + scale * (top - y)) for x, y in places]
+        self.lengths = [math.dist(self.at[a], self.at[b]) for (a, b), _ in self.edges]
+
+    def line(self, corners):
+        return "M" + "L".join("%.1f %.1f" % self.at[v] for v in corners)
+
+    def path(self, name, lines, style):
+        self.out.append('<path id="%s" %s d="%s"/>' % (name, style, "".join(lines)))
+
+    def text(self, x, y, words, size, colour, more=""):
+        self.out.append('<text x="%.1f" y="%.1f" dy="0.36em" font-size="%.3g" fill="%s"%s>%s</text>'
+                        % (x, y, size, colour, more, escape(str(words))))
+
+    def disc(self, x, y, number, fill, colour, ring):
+        self.out.append('<circle cx="%.1f" cy="%.1f" r="11.5" fill="%s" stroke="%s" stroke-width="1.2"/>' % (x, y, fill, ring))
+        self.text(x, y, number, 12, colour)
+
+    def draw_cells(self):
+        lines = []
+        for cell in self.cells:
+            same_way = shapes.turn(*[self.at[v] for v in cell]) >= 0  # else equal cells would cancel
+            lines.append(self.line(cell if same_way else cell[::-1]) + "Z")
+        self.path("cells", lines, 'fill="%s"' % CELL)
+
+    def draw_edges(self):
+        thin = min(2, max(0.6, sum(self.lengths) / max(1, len(self.lengths)) / 16))
+        widths = {"more": 0.4, "two": 0.7, "one": 1.2} if self.D == 3 else {"two": 1, "one": 2, "more": 3}
+        for kind, wide in widths.items():
+            lines = [self.line(edge) for edge, count in self.edges if kind_of(count) == kind]
+            self.path(kind, lines, 'stroke="%s" stroke-width="%.2f"' % (COLOURS[kind], thin * wide))
+
+    def number_cells(self):
+        """Where the number has room in the circle that touches the three sides."""
+        digits = len(str(len(self.cells)))
+        for c, cell in enumerate(self.cells):
+            corners = [self.at[v] for v in cell]
+            around = sum(math.dist(p, q) for p, q in zip(corners, corners[1:] + corners[:1]))
+            radius = abs(shapes.turn(*corners)) / around if around else 0
+            size = min(28, radius / math.hypot(0.32 * digits, 0.37))
+            if size > 7:
+                self.text(sum(x for x, _ in corners) / 3, sum(y for _, y in corners) / 3, c, size, INK)
+
+    def number_edges(self):
+        for i, (((a, b), count), length) in enumerate(zip(self.edges, self.lengths)):
+            if length > 60:
+                colour = COLOURS[kind_of(count)]
+                self.disc((self.at[a][0] + self.at[b][0]) / 2, (self.at[a][1] + self.at[b][1]) / 2, i, PAPER, colour, colour)
+
+    def number_vertices(self):
+        near = [math.inf] * self.points
+        for (edge, _), length in zip(self.edges, self.lengths):
+            for v in edge:
+                near[v] = min(near[v], length)
+        for v, (x, y) in enumerate(self.at):
+            if near[v] > 60:
+                self.disc(x, y, v, INK, PAPER, INK)
+
+    def draw_alone(self):
+        """The vertices that no cell uses, as dots."""
+        unused = sorted(set(range(self.points)) - {v for cell in self.cells for v in cell})
+        self.path("alone", [self.line([v]) + "h0" for v in unused], 'stroke="%s" stroke-width="3"' % INK)
+
+    def legend(self):
+        lines = []
+        for kind in KINDS:
+            count = sum(kind_of(c) == kind for _, c in self.edges)
+            place, words = WORDS[kind]
+            lines.append("%s%s: %d edge%s" % (place if self.D == 2 else "", words, count, "" if count == 1 else "s"))
+        x, y = (self.width - sum(31 + 6.2 * len(words) for words in lines) - 48) / 2, self.height - 24
+        for kind, words in zip(KINDS, lines):
+            self.out.append('<path stroke="%s" stroke-width="4" d="M%.1f %dh22"/>' % (COLOURS[kind], x, y))
+            self.text(x + 31, y, words, 12.5, INK, ' text-anchor="start"')
+            x += 55 + 6.2 * len(words)
+
+
+def drawing(name, mesh, places):
+    """The picture's text; places are None where there are no coordinates."""
+    picture = Picture(name, mesh, places)
+    if picture.D == 2:
+        picture.draw_cells()
+    picture.draw_edges()
+    picture.draw_alone()
+    if picture.D == 2:
+        picture.number_cells()
+    if picture.points <= 60:
+        if picture.D < 3:
+            picture.number_edges()
+        picture.number_vertices()
+    picture.legend()
+    return "\n".join(picture.out + ["</g>", "</svg>", ""])
