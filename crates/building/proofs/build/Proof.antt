@@ -22,7 +22,7 @@ write-sets-requires c κs =
     let q = m .before .before .before .before .before .before .before .before .pre in
     let k = m .meet-cells .ensures .0 in
     let b = between (q .0) (q .1 .0) (q .1 .1) in
-    ((k .links .most, (k .links .sets-long, used-fits (q .0))), (b .low, omega (arith, b .high, b .most)))
+    ((omega (arith, k .links .most), (k .links .sets-long, used-fits (q .0))), (b .low, omega (arith, b .high, b .most)))
 
 same-length : tie.Need-same-length
 same-length c = search needs
