@@ -53,7 +53,7 @@ add-set-head c = record { fits = mask-fits _ _ _ (c .before .before .before .bef
 set-head-requires : tie.Need-set-head-requires
 set-head-requires c κs = (
   omega (arith, c .before .before .before .settle .kept .0, c .before .before .before .before .before .before .before .before .before .before .before .before .before .before .append .kept .0, framed _ (c .before .before .before .before .before .before .before .before .before .before .before .before .before .before .before .before .before .before .before .before .before .before .before .before .pre .frame) .long),
-  end-fits _ _ _ (c .before .before .before .before .before .before .before .before .before .before .before .before .before .before .before .before .before .before .before .before .before .before .before .before .pre) _ _ _ _ (c .before .before .before .before .before .before .before .before .before .before .before .before .before .before .before .before .word2 .ensures) (c .before .before .before .before .before .before .before .before .before .before .before .before .before .before .append .ensures) (c .before .before .before .before .before .before .before .before .before .before .before .before .before .before .append .kept .0),
+  omega (arith, end-fits _ _ _ (c .before .before .before .before .before .before .before .before .before .before .before .before .before .before .before .before .before .before .before .before .before .before .before .before .pre) _ _ _ _ (c .before .before .before .before .before .before .before .before .before .before .before .before .before .before .before .before .word2 .ensures) (c .before .before .before .before .before .before .before .before .before .before .before .before .before .before .append .ensures) (c .before .before .before .before .before .before .before .before .before .before .before .before .before .before .append .kept .0)),
 )
 
 same-length-2 : tie.Need-same-length-2
