@@ -101,7 +101,7 @@ def main():
     words = argparse.ArgumentParser(description=__doc__, formatter_class=argparse.RawDescriptionHelpFormatter)
     words.add_argument("--seed", type=int, default=1)
     given = words.parse_args()
-    library, count, total = run.Library(run.built()[0]), 0, 0
+    library, count, total = run.Library(run.built()), 0, 0
     for name, mesh in all_meshes(given.seed):
         D = mesh[0]
         numbers, sets, touching = named(D, ours(library, rules.file_bytes(*mesh), D))

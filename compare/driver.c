@@ -92,7 +92,6 @@ int main(void) {
             get(at(bytes), i);
             given = daybook_load(at(bytes), i, words, n, (uint32_t *)out);
             break;
-#ifdef HAVE_MAKE
         case 'M':
             d = number(), e = number();
             given = daybook_make(words, n, d, e);
@@ -101,7 +100,6 @@ int main(void) {
             d = number(), e = number();
             given = daybook_ask(words, n, d, e);
             break;
-#endif
         case 'R': {
             size_t start, count;
             memcpy(&start, out, sizeof start), memcpy(&count, out, sizeof count);

@@ -44,12 +44,10 @@ def built():
     folder = os.path.join(TOP, "target", "compare")
     os.makedirs(folder, exist_ok=True)
     program = os.path.join(folder, "driver")
-    with open(os.path.join(TOP, "include", "daybook.h")) as header:
-        words = ["-DHAVE_MAKE"] if "daybook_make" in header.read() else []
     compiler, run = tools()
-    subprocess.run(compiler + words + ["-std=c11", "-O2", "-Wall", "-Wextra", "-static", "-I", os.path.join(TOP, "include"),
+    subprocess.run(compiler + ["-std=c11", "-O2", "-Wall", "-Wextra", "-static", "-I", os.path.join(TOP, "include"),
                    os.path.join(HERE, "driver.c"), archive, "-o", program], check=True)
-    return run + [program], bool(words)
+    return run + [program]
 
 
 class Library:
@@ -82,8 +80,8 @@ def checksum(words):
 
 
 class Runs:
-    def __init__(self, seed, library, calls, makes):
-        self.rng, self.library, self.left, self.makes = random.Random(seed), library, calls, makes
+    def __init__(self, seed, library, calls):
+        self.rng, self.library, self.left = random.Random(seed), library, calls
         self.table, self.book, self.past, self.made, self.sequences = {}, [], [], 0, 0
 
     def fail(self, what, got, wanted):
@@ -166,7 +164,7 @@ class Runs:
 
     def step(self, made):
         rng = self.rng
-        if self.makes and rng.random() < made:
+        if rng.random() < made:
             self.relation(rng.choice(("make", "ask")), self.dimension(), self.dimension())
         else:
             self.look()
@@ -204,10 +202,10 @@ class Runs:
             self.step(0.5)
 
     def full_size(self):
-        """Meshes of the full size: whole, and one vertex, one cell or one word too many."""
+        """Meshes of the full size, those of bench/ among them: whole, and one vertex, one cell or one word too many."""
         rng = self.rng
-        whole = meshes.random_mesh(rng, 3, 8192, 4096)
-        for mesh in (whole, meshes.sheet(46, 46), meshes.box(8, 8, 10), meshes.scattered(4096, 8192), meshes.fan(4098), meshes.random_mesh(rng, 1, 8192, 4096)):
+        whole = meshes.scattered(4096, 8192)
+        for mesh in (whole, meshes.sheet(46, 46), meshes.box(8, 8, 10), meshes.fan(4098), meshes.random_mesh(rng, 1, 8192, 4096)):
             data = rules.file_bytes(*mesh)
             need = 6 + len(mesh[2]) * (mesh[0] + 2)
             for room in (need - 1, need, 1500000):
@@ -217,7 +215,7 @@ class Runs:
                 self.write(size)
             for d in range(mesh[0] + 1):
                 for e in range(mesh[0] + 1):
-                    if self.makes and not (d == e > 0 and mesh[2][-1][0] == 0):
+                    if not (d == e > 0 and mesh[2][-1][0] == 0):
                         self.relation("ask", d, e)
                     self.row(d, e, 0)
                     self.row(d, e, mesh[1] - 1)
@@ -263,8 +261,7 @@ class Runs:
         self.demand("Euler number", rules.euler(self.book), (0, 1))
 
     def run(self, full):
-        if self.makes:
-            self.examples()
+        self.examples()
         if full:
             self.full_size()
         while self.left > 0:
@@ -281,8 +278,7 @@ def main():
     words.add_argument("--seed", type=int, default=1)
     words.add_argument("--full", action="store_true")
     given = words.parse_args()
-    command, makes = built()
-    runs = Runs(given.seed, Library(command), given.calls, makes)
+    runs = Runs(given.seed, Library(built()), given.calls)
     runs.run(given.full)
     for name, row in runs.table.items():
         print("%-10s %s" % (name, "  ".join("%d: %d" % (n, row[n]) for n in sorted(row))))
