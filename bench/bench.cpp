@@ -175,7 +175,7 @@ static void compare_files(const Named &m) {
     must(ours == theirs && length == ours.size(), "the two programs write different files");
 }
 
-// One row of D->0, many times over, in a book of so many words.
+// Rows of D->D-1, a million times, in a book of so many words; the time of one.
 static void compare_rows(const Named &m, size_t words) {
     const uint32_t calls = 1000000;
     auto book = book_with(m, relations(m), words);
@@ -227,7 +227,7 @@ int main() {
     // what a lent word costs that no relation needs
     for (size_t spare : {0, 1 << 18, 1 << 20}) compare(sheet(45), "0->2", {}, {{0, 2}}, spare, 5);
     // a row's cost does not depend on the book
-    compare_rows(sheet(3), 1000);
+    compare_rows({"1 cell", 3, 4, {{0, 1, 2, 3}}, true}, 1000);
     compare_rows(box(8, 8, 7), 1000000);
     std::printf("\n%-12s %8s %8s %8s\n", "mesh", "D->0", "all", "paper");
     for (const Named &m : meshes) memory(m);
