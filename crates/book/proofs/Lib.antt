@@ -1,4 +1,5 @@
 pub mod Flags
+pub mod Offsets
 pub mod Listed
 pub mod FrameLeft
 pub mod Needed

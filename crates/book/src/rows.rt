@@ -51,46 +51,24 @@ pub fn row(book: &[u32], k: u32, i: u32) -> &[u32]
     )
 }
 
-// Whether the words never fall.
-fn never_fall(words: &[u32]) -> bool
-    ensures { λ r. ⌜ r ≡ rises (now (words .entry)) ⌝ }
-{
-    let mut i: usize = 1;
-    while i < words.len() {
-        if words[i] < words[i - 1] {
-            return false;
-        }
-        i += 1;
-    }
-    true
-}
-
-// Whether the words ascend strictly.
-fn ascend(words: &[u32]) -> bool
-    ensures { λ r. ⌜ r ≡ ascends (now (words .entry)) ⌝ }
-{
-    let mut i: usize = 1;
-    while i < words.len() {
-        if words[i] <= words[i - 1] {
-            return false;
-        }
-        i += 1;
-    }
-    true
-}
-
-// Whether a row ascends strictly with its indices below `bound`.
+// Whether a row ascends strictly with its indices below `bound`; of words that ascend the last is the greatest.
 fn row_ascends(row: &[u32], bound: u32) -> bool
     ensures { λ r. ⌜ r ≡ (ascends (now (row .entry)) && allOf (λ (j : ℕ). ltb j bound) (now (row .entry))) ⌝ }
 {
-    let n = row.len();
-    if n == 0 {
+    if row.len() == 0 {
         return true;
     }
-    if !ascend(row) {
-        return false;
+    let mut last = row[0];
+    let mut i: usize = 1;
+    while i < row.len() {
+        let x = row[i];
+        if x <= last {
+            return false;
+        }
+        last = x;
+        i += 1;
     }
-    row[n - 1] < bound
+    last < bound
 }
 
 // Whether a row of the relation of key k has d + 1 entries, if it is d→0 with d > 0.
@@ -118,10 +96,20 @@ fn row_right(row: &[u32], k: u32, bound: u32) -> bool
     size_right(row, k)
 }
 
-// Whether each row of the relation of key k, which stands at `at`, is right.
+// Whether an offset that the book has, at `at`, is below the one before it.
+fn falls(book: &[u32], at: Place, before: u32, offset: u32) -> bool
+    ensures { λ r. ⌜ r ≡ (ltb (at .0) (length (now (book .entry))) && ltb offset before) ⌝ }
+{
+    if at.0 < book.len() {
+        return offset < before;
+    }
+    false
+}
+
+// Whether the offsets of the relation of key k, which stands at `at`, never fall, and each of its rows is right: each offset is read once, and then its row.
 fn rows_of_right(book: &[u32], k: u32, at: Place) -> bool
     requires { ⌜ (k < 16) × (at .0 ≡ rule.place (now book) k) ⌝ }
-    ensures { λ r. ⌜ r ≡ allOf (rule.rowRight (now (book .entry)) k) (rule.rowsOf (now (book .entry)) k) ⌝ }
+    ensures { λ r. ⌜ r ≡ (rises (take (rule.count (now (book .entry)) (k / 4) + 1) (drop (rule.place (now (book .entry)) k) (now (book .entry)))) && allOf (rule.rowRight (now (book .entry)) k) (rule.rowsOf (now (book .entry)) k)) ⌝ }
 {
     let n = count(book, k / 4) as usize;
     let bound = count(book, k % 4);
@@ -130,7 +118,11 @@ fn rows_of_right(book: &[u32], k: u32, at: Place) -> bool
     let mut first = word(book, Place(start));
     let mut i: usize = 0;
     while i < n {
-        let last = word(book, Place(start + (i + 1)));
+        let next = start + (i + 1);
+        let last = word(book, Place(next));
+        if falls(book, Place(next), first, last) {
+            return false;
+        }
         let row = part(book, Place(from + first as usize), above(first, last));
         if !row_right(row, k, bound) {
             return false;
@@ -147,9 +139,6 @@ fn relation_right(book: &[u32], k: u32, at: Place) -> bool
     ensures { λ r. ⌜ r ≡ rule.relationRight (now (book .entry)) k ⌝ }
 {
     if word(book, at) != 0 {
-        return false;
-    }
-    if !never_fall(part(book, at, count(book, k / 4) as usize + 1)) {
         return false;
     }
     rows_of_right(book, k, at)
