@@ -99,15 +99,15 @@ fn keep_only(book: &mut [u32], mask: u32) -> Place
 {
     let places = book::places_of(book);
     let at = places.at;
-    let mut to: usize = 5;
+    let mut to = Place(5);
     let mut k: usize = 0;
     while k < 16 {
         if has_power(mask, k) {
-            to = move_down(book, Place(at[k]), Place(at[k + 1]), Place(to)).0;
+            to = move_down(book, at[k], at[k + 1], to);
         }
         k += 1;
     }
-    Place(to)
+    to
 }
 
 // Gives the book a head, and behind it leaves only the relations that the head names, then zeros.
