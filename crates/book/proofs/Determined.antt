@@ -4,17 +4,19 @@ use mathlib.Core.List.{List}
 use Prim.Native.Nat.{ℕ}
 use denote.Ref.{RefT, ptr, now}
 use Rattle.book.specs.Parts.{RowPart}
+use Rattle.book.specs.Numbers.{numbers}
 use Rattle.book.specs.declared.Place.{Place}
 use Rattle.book.specs.declared.Places.{Places}
 use Rattle.book.specs.declared.frame.Needs.{Needs}
+use Rattle.book.proofs.Numbers.{numbers-same}
 
 -- a place that is said by an equation
 pub places-equal : (n : ℕ) (p q : Place) → p .0 ≡ n → q .0 ≡ n → p ≡ q
 places-equal n p q e f = λ i. record { 0 = (e ∙ sym f) i }
 
 -- all places
-pub all-places-equal : (ns : List ℕ) (p q : Places) → p .at ≡ ns → q .at ≡ ns → p ≡ q
-all-places-equal ns p q e f = λ i. record { at = (e ∙ sym f) i }
+pub all-places-equal : (ns : List ℕ) (p q : Places) → numbers (p .at) ≡ ns → numbers (q .at) ≡ ns → p ≡ q
+all-places-equal ns p q e f = λ i. record { at = numbers-same (p .at) (q .at) (e ∙ sym f) i }
 
 -- the needs of a relation
 pub needs-equal : (ns : List ℕ) (n : ℕ) (p q : Needs) → (p .keys ≡ ns) × (p .count ≡ n) → (q .keys ≡ ns) × (q .count ≡ n) → p ≡ q

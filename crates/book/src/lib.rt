@@ -13,13 +13,14 @@ ghost use Prim.Native.Nat.{ℕ, _+_, _≤_};
 ghost use lib.ListN.{getD};
 ghost use Rattle.rules.specs.Lists.{upTo};
 ghost use Rattle.rules.specs.Book as rule;
+ghost use Rattle.book.specs.Numbers.{numbers};
 
 // A position in the book.
 pub struct Place(pub usize);
 
 // Where each relation stands or would stand, by its key, and after them the place behind the last.
 pub struct Places {
-    pub at: [usize; 17],
+    pub at: [Place; 17],
 }
 
 // The word at a position, and 0 past the end.
@@ -99,12 +100,12 @@ pub fn place_of(book: &[u32], k: u32) -> Place
 
 // Where each relation begins, or would begin.
 pub fn places_of(book: &[u32]) -> Places
-    ensures { λ r. ⌜ r .at ≡ map (rule.place (now (book .entry))) (upTo 17) ⌝ }
+    ensures { λ r. ⌜ numbers (r .at) ≡ map (rule.place (now (book .entry))) (upTo 17) ⌝ }
 {
-    let mut at = [5usize; 17];
+    let mut at = [Place(5); 17];
     let mut k: usize = 0;
     while k < 16 {
-        at[k + 1] = behind(book, k as u32, Place(at[k])).0;
+        at[k + 1] = behind(book, k as u32, at[k]);
         k += 1;
     }
     Places { at: at }

@@ -21,6 +21,13 @@ fn lesser(a: usize, b: usize) -> usize
     if a < b { a } else { b }
 }
 
+// The earlier of two places.
+fn earlier(one: Place, other: Place) -> Place
+    ensures { λ r. ⌜ r .0 ≡ min (one .0) (other .0) ⌝ }
+{
+    if one.0 < other.0 { one } else { other }
+}
+
 // How far `to` lies above `from`, and 0 where it does not.
 fn above(from: u32, to: u32) -> usize
     ensures { λ r. ⌜ r ≡ to - from ⌝ }
@@ -32,7 +39,7 @@ fn above(from: u32, to: u32) -> usize
 fn part(book: &[u32], at: Place, n: usize) -> &[u32]
     ensures { λ r. ⌜ PartOf (book .entry) r (at .0) n ⌝ }
 {
-    let start = lesser(at.0, book.len());
+    let start = earlier(at, Place(book.len())).0;
     let end = start + lesser(n, book.len() - start);
     &book[start..end]
 }

@@ -1,4 +1,8 @@
 // Words moved within the book: a relation that was written behind the used words goes to its place by key, and free words are set to 0.
+// And the offsets of rows of one size, which a file's cells and Build's entities have.
+mod offsets;
+
+pub use offsets::write_offsets;
 ghost use mathlib.Core.Path.{_≡_};
 ghost use Prim.Native.Nat.{_+_, _-_, _^_, _≤_, _<_};
 ghost use lib.ListN.{length, getD};
@@ -99,15 +103,15 @@ fn keep_only(book: &mut [u32], mask: u32) -> Place
 {
     let places = book::places_of(book);
     let at = places.at;
-    let mut to: usize = 5;
+    let mut to = Place(5);
     let mut k: usize = 0;
     while k < 16 {
         if has_power(mask, k) {
-            to = move_down(book, Place(at[k]), Place(at[k + 1]), Place(to)).0;
+            to = move_down(book, at[k], at[k + 1], to);
         }
         k += 1;
     }
-    Place(to)
+    to
 }
 
 // Gives the book a head, and behind it leaves only the relations that the head names, then zeros.

@@ -10,6 +10,9 @@ use Rattle.rules.specs.Lists.{upTo}
 use Rattle.rules.specs.Book.{place}
 use Rattle.rules.proofs.Numbered.{getD-rows}
 use Rattle.rules.proofs.FrameRule.{framed, place-rises}
+use Rattle.book.specs.declared.Place.{Place}
+use Rattle.book.specs.Numbers.{numbers}
+use Rattle.book.proofs.Numbers.{number-at}
 use Rattle.settle.proofs.Lowering.{Keeping, keeping-none, keeping-skip, keeping-more, keeping-all}
 use Rattle.settle.proofs.keep_only.Statement.{statement}
 use Rattle.settle.proofs.keep_only.Tie as tie
@@ -20,14 +23,14 @@ use Rattle.settle.proofs.has_power.Reads as has-power-reads
 use Rattle.settle.proofs.move_down.Reads as move-down-reads
 
 abbrev Inv-loop : tie.InvT-loop
-Inv-loop book₀ mask at to₀ k₀ book to k = (at ≡ map (place book₀) (upTo 17)) × ((k ≤ 16) × Keeping book₀ mask k to book)
+Inv-loop book₀ mask at to₀ k₀ book to k = (numbers at ≡ map (place book₀) (upTo 17)) × ((k ≤ 16) × Keeping book₀ mask k (to .0) book)
 
 abbrev μ-loop : tie.MeasureT-loop
 μ-loop book₀ mask at to₀ k₀ book to k = 16 - k
 
 -- the place of relation k, from the array
-at-place : (ws at : List ℕ) → at ≡ map (place ws) (upTo 17) → (k : ℕ) → k < 17 → getD at k 0 ≡ place ws k
-at-place ws at e k l = ap (λ (a : List ℕ). getD a k 0) e ∙ getD-rows (place ws) 17 k 0 l
+at-place : (ws : List ℕ) (at : List Place) → numbers at ≡ map (place ws) (upTo 17) → (k : ℕ) → k < 17 → getD at k (record { 0 = 0 }) .0 ≡ place ws k
+at-place ws at e k l = sym (number-at at k) ∙ ap (λ (a : List ℕ). getD a k 0) e ∙ getD-rows (place ws) 17 k 0 l
 
 places-of-requires : tie.Need-places-of-requires Inv-loop μ-loop
 places-of-requires c κs = tt
@@ -38,25 +41,25 @@ loop-holds c = (c .before .places-of .ensures, (omega arith, keeping-none _ _ (c
 has-power-requires : tie.Need-has-power-requires Inv-loop μ-loop
 has-power-requires c κs = omega arith
 
-mul-t14 : tie.Need-mul-t14 Inv-loop μ-loop
-mul-t14 c = omega arith
+mul-move-down : tie.Need-mul-move-down Inv-loop μ-loop
+mul-move-down c = omega arith
 
-array-read-t17 : tie.Need-array-read-t17 Inv-loop μ-loop
-array-read-t17 c = omega arith
+array-copy-out-move-down : tie.Need-array-copy-out-move-down Inv-loop μ-loop
+array-copy-out-move-down c = omega arith
 
-add-t19 : tie.Need-add-t19 Inv-loop μ-loop
-add-t19 c = omega arith
+add-move-down : tie.Need-add-move-down Inv-loop μ-loop
+add-move-down c = omega arith
 
-mul-t20 : tie.Need-mul-t20 Inv-loop μ-loop
-mul-t20 c = omega arith
+mul-move-down-2 : tie.Need-mul-move-down-2 Inv-loop μ-loop
+mul-move-down-2 c = omega arith
 
-array-read-t23 : tie.Need-array-read-t23 Inv-loop μ-loop
-array-read-t23 c = omega arith
+array-copy-out-move-down-2 : tie.Need-array-copy-out-move-down-2 Inv-loop μ-loop
+array-copy-out-move-down-2 c = omega arith
 
 move-down-requires : tie.Need-move-down-requires Inv-loop μ-loop
-move-down-requires c κs = let l = c .before .before .before .before .loop in
-    let s = c .before .before .before .before .before .before .before .before .before in
-    let t = c .before .before .before .loop-test .taken in
+move-down-requires c κs = let l = c .before .before .before .before .before .before .loop in
+    let s = c .before .before .before .before .before .before .before .before .before .before .before in
+    let t = c .before .before .before .before .before .loop-test .taken in
     let a = at-place _ _ (l .inv .0) (l .k) (omega arith) in
     let b = at-place _ _ (l .inv .0) (l .k + 1) (omega arith) in
     let f = framed _ (s .pre .frame) in
@@ -82,7 +85,7 @@ loop-again c = let l = c .before .before .before .loop in
         omega arith,
         ⊎-elim
             (λ w.
-            rw (w .5, w .6, w .2 .ensures .1, w .2 .ensures .0, a, b, add-one (l .k))
+            rw (w .7, w .8, w .4 .ensures .1, w .4 .ensures .0, a, b, add-one (l .k))
             (keeping-more _ _ (s .pre) (l .k) _ _ (l .inv .1 .1) (omega arith) (sym p ∙ w .0 .taken)))
             (λ w. rw (w .1, w .2, add-one (l .k)) (keeping-skip _ _ (s .pre) (l .k) _ _ (l .inv .1 .1) (omega arith) (sym p ∙ w .0 .left)))
             (c .if1 .came),
@@ -106,11 +109,11 @@ keep-only-spec =
     places-of-requires
     loop-holds
     has-power-requires
-    mul-t14
-    array-read-t17
-    add-t19
-    mul-t20
-    array-read-t23
+    mul-move-down
+    array-copy-out-move-down
+    add-move-down
+    mul-move-down-2
+    array-copy-out-move-down-2
     move-down-requires
     add-k
     loop-less

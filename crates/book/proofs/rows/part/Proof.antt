@@ -6,14 +6,14 @@ use Rattle.rules.proofs.Steps.{cut}
 use Rattle.book.proofs.rows.part.Statement.{statement}
 use Rattle.book.proofs.rows.part.Tie as tie
 
-lesser-requires : tie.Need-lesser-requires
-lesser-requires c κs = search needs
+earlier-requires : tie.Need-earlier-requires
+earlier-requires c κs = search needs
 
 sub-lesser : tie.Need-sub-lesser
 sub-lesser c = search needs
 
-lesser-requires-2 : tie.Need-lesser-requires-2
-lesser-requires-2 c κs = search needs
+lesser-requires : tie.Need-lesser-requires
+lesser-requires c κs = search needs
 
 add-end : tie.Need-add-end
 add-end c = search needs
@@ -33,9 +33,9 @@ part-result-end c = search needs
 returns : tie.Need-returns
 returns c =
     let a = c .before .before .before .before .args in
-    let e = c .before .before .lesser .ensures in
+    let e = c .before .before .earlier .ensures in
     record {
-      words = cut (a .book .now) (a .at .0) (a .n) (c .before .before .lesser .result) (c .before .lesser2 .result) e (c .before .lesser2 .ensures);
+      words = cut (a .book .now) (a .at .0) (a .n) (c .before .before .earlier .result .0) (c .before .lesser .result) e (c .before .lesser .ensures);
       block = refl;
       start = omega (arith, e);
     }
@@ -44,9 +44,9 @@ pub part-spec : {M : Type 1} → statement M
 part-spec =
     tie.close
     (tie.spec
-    lesser-requires
+    earlier-requires
     sub-lesser
-    lesser-requires-2
+    lesser-requires
     add-end
     mul-result
     sub-result
