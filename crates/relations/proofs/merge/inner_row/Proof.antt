@@ -1,10 +1,18 @@
 -- The cursors stand over the rows at the row's vertices, and their filtered merge is the row of the rules.
+use mathlib.Core.Path.{refl}
 use borrow.Author.Needs.{needs}
 use Rattle.relations.proofs.Placed.{rows-within}
 use Rattle.relations.proofs.Standing.{row-rises, row-ends, row-few, row-below, near-sources, inner-row}
 use native.Mathlib.Omega.{arith}
 use Rattle.relations.proofs.merge.inner_row.Statement.{statement}
 use Rattle.relations.proofs.merge.inner_row.Tie as tie
+
+-- the places where the row's bounds are read, from the place before the cursors are set
+abbrev bounds : tie.After-end → tie.After-start-of2
+bounds c = c .before .before .before .before .before
+
+abbrev start : tie.After-start-of2 → tie.Start
+start c = c .before .before .before .before .before
 
 start-of-requires : tie.Need-start-of-requires
 start-of-requires c κs =
@@ -21,22 +29,32 @@ start-of-requires-2 c κs =
 
 sub-m : tie.Need-sub-m
 sub-m c =
-    let s = c .before .before .before .before .before .before .before in
-    row-rises _ _ _ _ _ _ (s .pre .0) (omega arith) (s .args .i) (s .pre .1 .1 .0) _ _ (c .before .before .before .before .start-of .ensures) (c .before .before .start-of2 .ensures)
+    let b = c .before .before in
+    let s = start b in
+    row-rises _ _ _ _ _ _ (s .pre .0) (omega arith) (s .args .i) (s .pre .1 .1 .0) _ _ (b .before .before .start-of .ensures) (b .start-of2 .ensures)
 
 cursors-at-requires : tie.Need-cursors-at-requires
 cursors-at-requires c κs =
-    let s = c .before .before .before .before .before .before .before .before in
-    let f = row-few _ _ _ _ _ _ (s .pre .0) (omega arith) (s .args .i) (s .pre .1 .1 .0) _ _ (c .before .before .before .before .before .start-of .ensures) (c .before .before .before .start-of2 .ensures) in
-    let b = row-below _ _ _ _ _ _ (s .pre .0) (omega arith) (s .args .i) (s .pre .1 .1 .0) _ _ (c .before .before .before .before .before .start-of .ensures) (c .before .before .before .start-of2 .ensures) in
-    let e = row-ends _ _ _ _ _ _ (s .pre .0) (omega arith) (s .args .i) (s .pre .1 .1 .0) _ _ (c .before .before .before .before .before .start-of .ensures) (c .before .before .before .start-of2 .ensures) in
-    (f, (rows-within (s .pre .0 .through .backed) _ (omega arith), (omega (arith, e), b)))
+    let b = bounds c in
+    let s = start b in
+    let f = row-few _ _ _ _ _ _ (s .pre .0) (omega arith) (s .args .i) (s .pre .1 .1 .0) _ _ (b .before .before .start-of .ensures) (b .start-of2 .ensures) in
+    let l = row-below _ _ _ _ _ _ (s .pre .0) (omega arith) (s .args .i) (s .pre .1 .1 .0) _ _ (b .before .before .start-of .ensures) (b .start-of2 .ensures) in
+    let e = row-ends _ _ _ _ _ _ (s .pre .0) (omega arith) (s .args .i) (s .pre .1 .1 .0) _ _ (b .before .before .start-of .ensures) (b .start-of2 .ensures) in
+    (f, (rows-within (s .pre .0 .through .backed) _ (omega arith), (omega (arith, e), (l, (refl, refl)))))
 
 merge-inside-row-requires : tie.Need-merge-inside-row-requires
 merge-inside-row-requires c κs =
-    let s = c .before .before .before .before .before .before .before .before .before .before in (
-      near-sources _ _ _ _ _ _ (s .pre .0) (omega arith) (s .args .i) (s .pre .1 .1 .0) _ _ (c .before .before .before .before .before .before .before .start-of .ensures) (c .before .before .before .before .before .start-of2 .ensures) _ _ (c .before .cursors-at .ensures),
-      (s .pre .1 .0, (row-ends _ _ _ _ _ _ (s .pre .0) (omega arith) (s .args .i) (s .pre .1 .1 .0) _ _ (c .before .before .before .before .before .before .before .start-of .ensures) (c .before .before .before .before .before .start-of2 .ensures), s .pre .1 .1 .1)),
+    let p = c .before .before .before in
+    let b = bounds (p .before) in
+    let s = start b in (
+      near-sources _ _ _ _ _ _ (s .pre .0) (omega arith) (s .args .i) (s .pre .1 .1 .0) _ _ (b .before .before .start-of .ensures) (b .start-of2 .ensures) _ _ (p .cursors-at .ensures .1),
+      (
+        s .pre .1 .0,
+        (
+          row-ends _ _ _ _ _ _ (s .pre .0) (omega arith) (s .args .i) (s .pre .1 .1 .0) _ _ (b .before .before .start-of .ensures) (b .start-of2 .ensures),
+          (s .pre .1 .1 .1, p .cursors-at .ensures .0),
+        ),
+      ),
     )
 
 same-length : tie.Need-same-length
@@ -44,8 +62,10 @@ same-length c = search needs
 
 returns : tie.Need-returns
 returns c =
-    let s = c .before .before .before .before .before .before .before .before .before .before .before .before .before in
-    rw (inner-row _ _ _ _ _ _ (s .pre .0) (omega arith) (s .args .i) (s .pre .1 .1 .0) _ _ (c .before .before .before .before .before .before .before .before .before .before .start-of .ensures) (c .before .before .before .before .before .before .before .before .start-of2 .ensures) _ _ (c .before .before .before .before .cursors-at .ensures) (s .args .sub .0) (s .args .b)) at (c .before .before .merge-inside-row .ensures)
+    let p = c .before .before .before .before .before .before in
+    let b = bounds (p .before) in
+    let s = start b in
+    rw (inner-row _ _ _ _ _ _ (s .pre .0) (omega arith) (s .args .i) (s .pre .1 .1 .0) _ _ (b .before .before .start-of .ensures) (b .start-of2 .ensures) _ _ (p .cursors-at .ensures .1) (s .args .sub .0) (s .args .b)) at (c .before .before .merge-inside-row .ensures)
 
 pub inner-row-spec : {M : Type 1} → statement M
 inner-row-spec =

@@ -1,6 +1,5 @@
 -- The invariant is a `Turn` of the merge under the test `liesIn`, read from the words at entry; the measure is what the cursors have left.
 use mathlib.Core.Path.{_≡_, sym, _∙_}
-use borrow.Author.Needs.{needs}
 use lib.ListN.{length}
 use Rattle.rules.specs.Lists.{joined}
 use Rattle.relations.specs.Merge.{parts, liesIn}
@@ -12,59 +11,81 @@ use Rattle.relations.proofs.merge.merge_inside_row.Statement.{statement
 use Rattle.relations.proofs.merge.merge_inside_row.Tie as tie
 
 abbrev Inv-loop : tie.InvT-loop
-Inv-loop book₀ n rows a m bound count rest₀ at₀ book rest at = Turn (liesIn book₀ (rows .0) bound (a .0) m) n bound at₀ book₀ (rest₀ .next) (rest₀ .end) book (rest .next) (rest .end) at
+Inv-loop book₀ rest₀ end n rows a m bound count at₀ book rest at = Turn (liesIn book₀ (rows .0) bound (a .0) m) n bound at₀ book₀ rest₀ end book rest at
 
 abbrev μ-loop : tie.MeasureT-loop
-μ-loop book₀ n rows a m bound count rest₀ at₀ book rest at = length (joined (parts book₀ (rest .next) (rest₀ .end) n))
+μ-loop book₀ rest₀ end n rows a m bound count at₀ book rest at = length (joined (parts book₀ rest end n))
+
+-- the turn's begin, from the place where the cursors are moved on
+abbrev turn : tie.After-advance Inv-loop μ-loop → tie.At-loop Inv-loop μ-loop
+turn c = c .before .before .before .before .before .before .before
 
 loop-holds : tie.Need-loop-holds Inv-loop μ-loop
-loop-holds c = let four : length (c .before .args .c .next) ≡ 4 = search needs in start (omega arith) (c .before .pre .0)
+loop-holds c = start (omega arith) (c .before .pre .0)
 
 least-requires : tie.Need-least-requires Inv-loop μ-loop
-least-requires c κs = record { few = omega arith; ends = turn-ends (c .before .loop .inv) }
+least-requires c κs = record { few = omega arith; ends = turn-ends (c .before .before .loop .inv) }
 
 same-length : tie.Need-same-length Inv-loop μ-loop
-same-length c = c .before .before .before .loop .inv .size
+same-length c = c .before .before .before .before .loop .inv .size
 
 returns : tie.Need-returns Inv-loop μ-loop
-returns c = done (c .before .before .before .loop .inv) (omega (arith, c .before .least .ensures))
+returns c = done (c .before .before .before .before .loop .inv) (omega (arith, c .before .least .ensures))
 
-advanced-requires : tie.Need-advanced-requires Inv-loop μ-loop
-advanced-requires c κs = record { few = omega arith; ends = turn-ends (c .before .before .before .before .loop .inv) }
+advance-requires : tie.Need-advance-requires Inv-loop μ-loop
+advance-requires c κs = record { few = omega arith; ends = turn-ends (c .before .before .before .before .before .before .loop .inv) }
 
 cast-row-lies-in : tie.Need-cast-row-lies-in Inv-loop μ-loop
 cast-row-lies-in c = omega arith
 
 row-lies-in-requires : tie.Need-row-lies-in-requires Inv-loop μ-loop
 row-lies-in-requires c κs =
-    let s = c .before .before .before .before .before .before .before .before in
-    let t = c .before .before .before .before .before .before .loop .inv in
-    (rows-front _ _ _ (min-front t) (s .pre .1 .0) _ (omega arith), (omega arith, c .before .before .before .if1 .left))
+    let t = turn (c .before) in
+    let s = t .before .before in
+    (rows-front _ _ _ (min-front (t .loop .inv)) (s .pre .1 .0) _ (omega (arith, t .loop .inv .size)), (omega (arith, t .loop .inv .size, s .pre .1 .1 .0), c .before .before .before .before .if1 .left))
 
 put-requires : tie.Need-put-requires Inv-loop μ-loop
 put-requires c κs = tt
 
 -- what the call found is the test, whose rows and part stand before dst
-found : (c : tie.After-row-lies-in Inv-loop μ-loop) → let a = c .before .before .before .before .before .before .before .before .before .args in
-    liesIn (a .book .now) (a .rows .0) (a .bound) (a .a .0) (a .m) (c .before .before .before .before .before .least .result) ≡ c .row-lies-in .result
+found : (c : tie.After-row-lies-in Inv-loop μ-loop) → let a = turn (c .before .before) .before .before .args in
+    liesIn (a .book .now) (a .rows .0) (a .bound) (a .a .0) (a .m) (c .before .before .before .before .before .before .least .result) ≡ c .row-lies-in .result
 found c =
-    let s = c .before .before .before .before .before .before .before .before .before in
-    sym (c .row-lies-in .ensures ∙ liesIn-front _ _ _ (min-front (c .before .before .before .before .before .before .before .loop .inv)) (s .pre .1 .0) (s .args .a .0) (s .args .m) (s .pre .1 .1 .0) _ (c .before .before .before .before .if1 .left))
+    let t = turn (c .before .before) in
+    let s = t .before .before in
+    sym (c .row-lies-in .ensures ∙ liesIn-front _ _ _ (min-front (t .loop .inv)) (s .pre .1 .0) (s .args .a .0) (s .args .m) (s .pre .1 .1 .0) _ (c .before .before .before .before .before .if1 .left))
 
 add-at : tie.Need-add-at Inv-loop μ-loop
-add-at c = omega (arith, turn-below (c .before .before .before .before .before .before .before .before .before .before .before .before .loop .inv) _ (c .before .before .before .before .before .before .before .before .before .before .least .ensures) (c .before .before .before .before .before .before .before .before .before .if1 .left) (found (c .before .before .before .before .before) ∙ c .before .before .before .before .if2 .taken), c .before .before .before .before .before .before .before .before .before .before .before .before .before .before .pre .1 .1 .1)
+add-at c =
+    let f = c .before .before .before .before .before in
+    let a = f .before .before in
+    omega (
+      arith,
+      turn-below (turn a .loop .inv) _ (a .before .before .before .before .least .ensures) (a .before .before .before .if1 .left) (found f ∙ c .before .before .before .before .if2 .taken),
+      turn a .before .before .pre .1 .1 .1 .0,
+    )
 
 loop-less : tie.Need-loop-less Inv-loop μ-loop
-loop-less c = rw (c .before .before .before .before .before .before .before .advanced .ensures .0) (turn-falls (c .before .before .before .before .before .before .before .before .before .before .before .before .loop .inv) _ (c .before .before .before .before .before .before .before .before .before .before .least .ensures) (c .before .before .before .before .before .before .before .before .before .if1 .left))
+loop-less c =
+    let a = c .before .before .before .before .before .before .before in
+    rw (a .advance .ensures) (turn-falls (turn a .loop .inv) _ (a .before .before .before .before .least .ensures) (a .before .before .before .if1 .left))
 
 loop-again : tie.Need-loop-again Inv-loop μ-loop
-loop-again c = rw (c .before .before .put .ensures, c .before .before .before .before .before .before .before .advanced .ensures .0, c .before .before .before .before .before .before .before .advanced .ensures .1) (kept (c .before .before .before .before .before .before .before .before .before .before .before .before .loop .inv) _ (c .before .before .before .before .before .before .before .before .before .before .least .ensures) (c .before .before .before .before .before .before .before .before .before .if1 .left) (found (c .before .before .before .before .before) ∙ c .before .before .before .before .if2 .taken))
+loop-again c =
+    let f = c .before .before .before .before .before in
+    let a = f .before .before in
+    rw (c .before .before .put .ensures, a .advance .ensures)
+    (kept (turn a .loop .inv) _ (a .before .before .before .before .least .ensures) (a .before .before .before .if1 .left) (found f ∙ c .before .before .before .before .if2 .taken))
 
 loop-less-2 : tie.Need-loop-less-2 Inv-loop μ-loop
-loop-less-2 c = rw (c .before .before .before .advanced .ensures .0) (turn-falls (c .before .before .before .before .before .before .before .before .loop .inv) _ (c .before .before .before .before .before .before .least .ensures) (c .before .before .before .before .before .if1 .left))
+loop-less-2 c =
+    let a = c .before .before .before in
+    rw (a .advance .ensures) (turn-falls (turn a .loop .inv) _ (a .before .before .before .before .least .ensures) (a .before .before .before .if1 .left))
 
 loop-again-2 : tie.Need-loop-again-2 Inv-loop μ-loop
-loop-again-2 c = rw (c .before .before .before .advanced .ensures .0, c .before .before .before .advanced .ensures .1) (passed (c .before .before .before .before .before .before .before .before .loop .inv) _ (c .before .before .before .before .before .before .least .ensures) (c .before .before .before .before .before .if1 .left) (found (c .before) ∙ c .if2 .left))
+loop-again-2 c =
+    let a = c .before .before .before in
+    rw (a .advance .ensures) (passed (turn a .loop .inv) _ (a .before .before .before .before .least .ensures) (a .before .before .before .if1 .left) (found (c .before) ∙ c .if2 .left))
 
 pub merge-inside-row-spec : {M : Type 1} → statement M
 merge-inside-row-spec =
@@ -76,7 +97,7 @@ merge-inside-row-spec =
     least-requires
     same-length
     returns
-    advanced-requires
+    advance-requires
     cast-row-lies-in
     row-lies-in-requires
     put-requires
