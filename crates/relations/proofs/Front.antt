@@ -37,6 +37,7 @@ module _ (vs ws : List ℕ) (m : ℕ) (e : take m vs ≡ take m ws) (own n back 
     owned = rows-front vs ws m e (c .owned) k l;
     backed = rows-front vs ws m e (c .backed) k l;
     below = λ i h. rw (rowAt-front vs ws m e (c .owned) i h) (c .below i h);
+    ascend = λ w h. rw (rowAt-front vs ws m e (c .backed) w h) (c .ascend w h);
   }
 
   pub nearRow-front : (i : ℕ) → i < n → nearRow vs own n back v i ≡ nearRow ws own n back v i
@@ -63,7 +64,6 @@ pub incidence-front : (vs ws : List ℕ) (m : ℕ) → take m vs ≡ take m ws �
 incidence-front vs ws m e own n back v c k l = record {
   through = through-front vs ws m e own n back v (c .through) k l;
   few = λ i h. rw (rowAt-front vs ws m e (c .through .owned) i h) (c .few i h);
-  ascend = λ w h. rw (rowAt-front vs ws m e (c .through .backed) w h) (c .ascend w h);
 }
 
 pub length-innerRow : (ws : List ℕ) (own n back v sub b i : ℕ) → length (innerRow ws own n back v sub b i) ≤ b

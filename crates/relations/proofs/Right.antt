@@ -105,9 +105,13 @@ module _ {ws : List ℕ} {d e dst : ℕ} {source : Source} (r : Ready ws d e dst
 module _ {ws : List ℕ} {d e dst : ℕ} (r : Ready ws d e dst) (x y : ℕ) (p : 0 < x) (l : x < 4) (m : y < 4) (hx : held ws (key x 0) ≡ true) (hy : held ws (key 0 y) ≡ true) where
   ready-incidence : Incidence ws (place ws (key x 0)) (count ws x) (place ws (key 0 y)) (count ws 0) (min dst (length ws))
   ready-incidence = record {
-    through = record { owned = ready-rows r x 0 (omega arith) hx; backed = ready-rows r 0 y m hy; below = ready-below r x 0 (omega arith) hx };
+    through = record {
+      owned = ready-rows r x 0 (omega arith) hx;
+      backed = ready-rows r 0 y m hy;
+      below = ready-below r x 0 (omega arith) hx;
+      ascend = ready-ascends r 0 y m hy;
+    };
     few = λ i h. omega (arith, ready-vertices r x p hx i h);
-    ascend = ready-ascends r 0 y m hy;
   }
 
 module _ {ws : List ℕ} {d dst : ℕ} {own back : Source} (r : Ready ws d d dst)
@@ -173,6 +177,7 @@ module _ {ws : List ℕ} {dst : ℕ} {own back : Source} (r : Ready ws 0 0 dst)
           owned = ready-rows r 0 (dim ws) (small r) up;
           backed = ready-rows r (dim ws) 0 (omega arith) down;
           below = ready-below r 0 (dim ws) (small r) up;
+          ascend = ready-ascends r (dim ws) 0 (omega arith) down;
         };
         again = ready-below r (dim ws) 0 (omega arith) down;
         most = frame r .vertices;

@@ -23,14 +23,14 @@ unfoldable pub innerRow : List ℕ → ℕ → ℕ → ℕ → ℕ → ℕ → �
 innerRow ws own n back v sub b i =
     keep (λ j. listedAt (rowAt ws back v) (rowAt ws own n i) j && inside (rowAt ws sub b j) (rowAt ws own n i)) (upTo b)
 
--- own, of n rows, and back, of v rows, lie in the first m words, and own's rows name rows of back
+-- own, of n rows, and back, of v rows, lie in the first m words, own's rows name rows of back, and back's rows ascend
 pub record Through (ws : List ℕ) (own n back v m : ℕ) : Type 0 where
   pub owned : Rows ws own n m
   pub backed : Rows ws back v m
   pub below : (i : ℕ) → i < n → allOf (λ w. ltb w v) (rowAt ws own n i) ≡ true
+  pub ascend : (w : ℕ) → w < v → ascends (rowAt ws back v w) ≡ true
 
--- d→0 and 0→d lie in the first m words, with at most four vertices to a row and ascending rows at each vertex
+-- the same of d→0 and 0→d, with at most four vertices to a row
 pub record Incidence (ws : List ℕ) (own n back v m : ℕ) : Type 0 where
   pub through : Through ws own n back v m
   pub few : (i : ℕ) → i < n → length (rowAt ws own n i) ≤ 4
-  pub ascend : (w : ℕ) → w < v → ascends (rowAt ws back v w) ≡ true

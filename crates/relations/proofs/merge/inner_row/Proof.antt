@@ -2,7 +2,7 @@
 use mathlib.Core.Path.{refl}
 use borrow.Author.Needs.{needs}
 use Rattle.relations.proofs.Placed.{rows-within}
-use Rattle.relations.proofs.Standing.{row-rises, row-ends, row-few, row-below, near-sources, inner-row}
+use Rattle.relations.proofs.Standing.{row-rises, row-ends, row-length, row-below, near-sources, inner-row}
 use native.Mathlib.Omega.{arith}
 use Rattle.relations.proofs.merge.inner_row.Statement.{statement}
 use Rattle.relations.proofs.merge.inner_row.Tie as tie
@@ -31,27 +31,27 @@ sub-m : tie.Need-sub-m
 sub-m c =
     let b = c .before .before in
     let s = start b in
-    row-rises _ _ _ _ _ _ (s .pre .0) (omega arith) (s .args .i) (s .pre .1 .1 .0) _ _ (b .before .before .start-of .ensures) (b .start-of2 .ensures)
+    row-rises _ _ _ _ _ _ (s .pre .0 .through) (omega arith) (s .args .i) (s .pre .1 .1 .0) _ _ (b .before .before .start-of .ensures) (b .start-of2 .ensures)
 
 cursors-at-requires : tie.Need-cursors-at-requires
 cursors-at-requires c κs =
     let b = bounds c in
     let s = start b in
-    let f = row-few _ _ _ _ _ _ (s .pre .0) (omega arith) (s .args .i) (s .pre .1 .1 .0) _ _ (b .before .before .start-of .ensures) (b .start-of2 .ensures) in
-    let l = row-below _ _ _ _ _ _ (s .pre .0) (omega arith) (s .args .i) (s .pre .1 .1 .0) _ _ (b .before .before .start-of .ensures) (b .start-of2 .ensures) in
-    let e = row-ends _ _ _ _ _ _ (s .pre .0) (omega arith) (s .args .i) (s .pre .1 .1 .0) _ _ (b .before .before .start-of .ensures) (b .start-of2 .ensures) in
-    (f, (rows-within (s .pre .0 .through .backed) _ (omega arith), (omega (arith, e), (l, (refl, refl)))))
+    let f = row-length _ _ _ _ _ _ (s .pre .0 .through) (omega arith) (s .args .i) (s .pre .1 .1 .0) _ _ (b .before .before .start-of .ensures) (b .start-of2 .ensures) in
+    let l = row-below _ _ _ _ _ _ (s .pre .0 .through) (omega arith) (s .args .i) (s .pre .1 .1 .0) _ _ (b .before .before .start-of .ensures) (b .start-of2 .ensures) in
+    let e = row-ends _ _ _ _ _ _ (s .pre .0 .through) (omega arith) (s .args .i) (s .pre .1 .1 .0) _ _ (b .before .before .start-of .ensures) (b .start-of2 .ensures) in
+    (omega (arith, f, s .pre .0 .few (s .args .i) (s .pre .1 .1 .0)), (rows-within (s .pre .0 .through .backed) _ (omega arith), (omega (arith, e), (l, (refl, refl)))))
 
 merge-inside-row-requires : tie.Need-merge-inside-row-requires
 merge-inside-row-requires c κs =
     let p = c .before .before .before in
     let b = bounds (p .before) in
     let s = start b in (
-      near-sources _ _ _ _ _ _ (s .pre .0) (omega arith) (s .args .i) (s .pre .1 .1 .0) _ _ (b .before .before .start-of .ensures) (b .start-of2 .ensures) _ _ (p .cursors-at .ensures .1),
+      near-sources _ _ _ _ _ _ (s .pre .0 .through) (omega arith) (s .args .i) (s .pre .1 .1 .0) _ _ (b .before .before .start-of .ensures) (b .start-of2 .ensures) _ _ (p .cursors-at .ensures .1) (s .pre .0 .few (s .args .i) (s .pre .1 .1 .0)),
       (
         s .pre .1 .0,
         (
-          row-ends _ _ _ _ _ _ (s .pre .0) (omega arith) (s .args .i) (s .pre .1 .1 .0) _ _ (b .before .before .start-of .ensures) (b .start-of2 .ensures),
+          row-ends _ _ _ _ _ _ (s .pre .0 .through) (omega arith) (s .args .i) (s .pre .1 .1 .0) _ _ (b .before .before .start-of .ensures) (b .start-of2 .ensures),
           (s .pre .1 .1 .1, p .cursors-at .ensures .0),
         ),
       ),
@@ -65,7 +65,7 @@ returns c =
     let p = c .before .before .before .before .before .before in
     let b = bounds (p .before) in
     let s = start b in
-    rw (inner-row _ _ _ _ _ _ (s .pre .0) (omega arith) (s .args .i) (s .pre .1 .1 .0) _ _ (b .before .before .start-of .ensures) (b .start-of2 .ensures) _ _ (p .cursors-at .ensures .1) (s .args .sub .0) (s .args .b)) at (c .before .before .merge-inside-row .ensures)
+    rw (inner-row _ _ _ _ _ _ (s .pre .0 .through) (omega arith) (s .args .i) (s .pre .1 .1 .0) _ _ (b .before .before .start-of .ensures) (b .start-of2 .ensures) _ _ (p .cursors-at .ensures .1) (s .args .sub .0) (s .args .b)) at (c .before .before .merge-inside-row .ensures)
 
 pub inner-row-spec : {M : Type 1} → statement M
 inner-row-spec =

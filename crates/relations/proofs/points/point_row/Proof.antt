@@ -1,30 +1,14 @@
--- The cells at i are stamped, i is not, and the vertices that bear the stamp are the row of the rules.
-use Prim.Native.Nat.{_+_}
-use denote.Ref.{now}
-use native.Mathlib.Omega.{arith}
-use lib.Dec.{ltb}
-use borrow.Author.Tests.{ltb-true, lt-ltb}
-use Rattle.rules.proofs.Tests.{all-weaker}
-use Rattle.relations.specs.Points.{Met}
-use Rattle.relations.proofs.Placed.{start-rises, start-fit, rows-within, row-slice}
-use Rattle.relations.proofs.PointRows.{around, point-groups, point-blocks, point-row-is, point-fresh}
+-- Both ways write the row of the rules; a merge sets no stamp, so those that stood below i + 1 still do.
 use borrow.Author.Needs.{needs}
+use native.Mathlib.Omega.{arith}
+use Rattle.relations.proofs.Standing.{row-rises, row-length}
+use Rattle.relations.proofs.PointRows.{fresh-later}
 use Rattle.relations.proofs.points.point_row.Statement.{statement}
 use Rattle.relations.proofs.points.point_row.Tie as tie
-use Rattle.relations.proofs.points.meet_all.Reads as meet-all-reads
-use Rattle.relations.proofs.points.write_met.Reads as write-met-reads
-use Rattle.relations.proofs.words.start_of.Reads as start-of-reads
 
--- the function's entry, from the place after the stamps
-abbrev start : tie.After-meet-all → tie.Start
-start c = c .before .before .before .before .before .before .before .before .before .before
-
-met-is : (c : tie.After-meet-all) → let a = start c .args in
-    Met (now (a .met)) (now (a .touched)) (now (a .blocks)) (a .i + 1) (around (start c .pre .0) (a .i) (start c .pre .1 .1 .0))
-    (c .meet-all .last .1 .0) (c .meet-all .last .1 .1 .0) (c .meet-all .last .1 .1 .1 .0)
-met-is c =
-    let second = c .before .before .before .before .before in
-    rw (second .before .before .start-of .ensures, second .start-of2 .ensures, row-slice _ _ _ (start c .args .i)) at (c .meet-all .ensures)
+-- the function's entry, from the place where the row's bounds are read
+abbrev start : tie.After-start-of2 → tie.Start
+start b = b .before .before .before .before .before
 
 start-of-requires : tie.Need-start-of-requires
 start-of-requires c κs = search needs
@@ -35,59 +19,32 @@ add-start-of c = search needs
 start-of-requires-2 : tie.Need-start-of-requires-2
 start-of-requires-2 c κs = search needs
 
-add-stamp : tie.Need-add-stamp
-add-stamp c = search needs
+sub-if1 : tie.Need-sub-if1
+sub-if1 c =
+    let s = start c in
+    row-rises _ _ _ _ _ _ (s .pre .0 .through) (omega arith) (s .args .i) (s .pre .1 .1 .0) _ _ (c .before .before .start-of .ensures) (c .start-of2 .ensures)
 
-meet-all-requires : tie.Need-meet-all-requires
-meet-all-requires c κs =
-    let second = c .before .before .before .before in
-    let s = second .before .before .before .before .before in
-    let w = s .pre .0 .through in
-    let i = s .args .i in
-    rw (second .before .before .start-of .ensures, second .start-of2 .ensures) (
-      start-rises (w .owned) i (i + 1) (omega arith) (omega (arith, s .pre .1 .1 .0)),
-      (
-        omega (arith, start-fit (w .owned) (i + 1) (omega (arith, s .pre .1 .1 .0))),
-        (
-          rows-within (w .backed) _ (omega arith),
-          (
-            rw (row-slice _ _ _ i) (w .below i (s .pre .1 .1 .0)),
-            λ x l. all-weaker (λ j. ltb j (s .args .n)) (λ j. ltb j 8192) (λ j e. lt-ltb j 8192 (omega (arith, ltb-true j (s .args .n) e, s .pre .0 .most))) _ (s .pre .0 .again x l),
-          ),
-        ),
-      ),
-    )
-
-mul-met : tie.Need-mul-met
-mul-met c = search needs
-
-element-write-met : tie.Need-element-write-met
-element-write-met c = search needs
-
-add-write-met : tie.Need-add-write-met
-add-write-met c = search needs
-
-write-met-requires : tie.Need-write-met-requires
-write-met-requires c κs =
-    let m = c .before .before .before .before in
-    let q = start m .pre in (
-      omega (arith, q .0 .most),
-      (
-        point-groups (q .0) (start m .args .i) (q .1 .1 .0) (q .1 .0) (met-is m),
-        (point-blocks (q .0) (start m .args .i) (q .1 .1 .0) (q .1 .0) (met-is m), q .1 .1 .1),
-      ),
-    )
+neighbour-row-requires : tie.Need-neighbour-row-requires
+neighbour-row-requires c κs =
+    let b = c .before .before in
+    let s = start b in
+    let l = row-length _ _ _ _ _ _ (s .pre .0 .through) (omega arith) (s .args .i) (s .pre .1 .1 .0) _ _ (b .before .before .start-of .ensures) (b .start-of2 .ensures) in
+    (s .pre .0 .through, (s .pre .1 .1 .0, (omega (arith, l, c .before .if1 .taken), omega (arith, s .pre .0 .most, s .pre .1 .1 .1))))
 
 same-length : tie.Need-same-length
 same-length c = search needs
 
 returns : tie.Need-returns
-returns c =
-    let m = c .before .before .before .before .before .before .before in
-    let q = start m .pre in (
-      rw (point-row-is (q .0) (start m .args .i) (q .1 .1 .0) (q .1 .0) (met-is m)) at (c .before .before .write-met .ensures),
-      point-fresh (q .0) (start m .args .i) (q .1 .1 .0) (q .1 .0) (met-is m),
-    )
+returns c = (c .before .before .neighbour-row .ensures, fresh-later (start (c .before .before .before .before .before) .pre .1 .0))
+
+stamped-row-requires : tie.Need-stamped-row-requires
+stamped-row-requires c κs = start (c .before .before .before .before .before) .pre
+
+same-length-2 : tie.Need-same-length-2
+same-length-2 c = search needs
+
+returns-2 : tie.Need-returns-2
+returns-2 c = c .before .before .stamped-row .ensures
 
 pub point-row-spec : {M : Type 1} → statement M
 point-row-spec =
@@ -96,11 +53,10 @@ point-row-spec =
     start-of-requires
     add-start-of
     start-of-requires-2
-    add-stamp
-    meet-all-requires
-    mul-met
-    element-write-met
-    add-write-met
-    write-met-requires
+    sub-if1
+    neighbour-row-requires
     same-length
-    returns)
+    returns
+    stamped-row-requires
+    same-length-2
+    returns-2)
