@@ -5,7 +5,7 @@ use Prim.Native.Nat.{ℕ, zero, suc, _+_, _-_, _*_, _≤_, _<_}
 use native.Mathlib.Nat.{zero-mul, suc-mul}
 use native.Mathlib.Numerals.{add-one}
 use native.Mathlib.Omega.{arith}
-use lib.ListN.{length, getD, take, drop, set, length-append, length-set}
+use lib.ListN.{length, getD, take, drop, set, length-append}
 use lib.Seq.{take-at, drop-at, length-take-le}
 use Rattle.rules.specs.Lists.{upTo, joined}
 use Rattle.rules.specs.Book.{offsets, relation}
@@ -29,30 +29,6 @@ written-after {ws} {dst} {a} {m} {vs} {b} {r} {us} w s u = record {
       let g : drop m vs ≡ drop m ws = ap (drop m) h ∙ drop-at (take dst ws ++ a) (drop m ws) m n in
       u .words (omega arith) ∙ rw (f, drop-later vs ws m r k g) (simp append-assoc);
 }
-
--- ---- the offsets
--- i offsets are written
-pub record Stepping (ws : List ℕ) (dst n size : ℕ) (vs : List ℕ) (i : ℕ) : Type 0 where
-  pub high : i ≤ n
-  pub long : length vs ≡ length ws
-  pub written : Written ws dst (map (λ k. k * size) (upTo i)) (dst + i) vs
-
-pub stepping-none : (ws : List ℕ) (dst n size : ℕ) → Stepping ws dst n size ws 0
-unfolding upTo
-stepping-none ws dst n size = record { high = omega arith; long = refl; written = written-none ws dst (dst + 0) (omega arith) }
-
-module _ {ws : List ℕ} {dst n size : ℕ} {vs : List ℕ} {i : ℕ} (w : Stepping ws dst n size vs i) where
-  pub stepping-more : i < n → (us : List ℕ) → us ≡ set vs (dst + i) (i * size) → Stepping ws dst n size us (i + 1)
-  stepping-more l us e =
-      let g : dst + i + 1 ≡ dst + (i + 1) = omega arith in
-      record {
-        high = omega arith;
-        long = rw e (length-set vs (dst + i) (i * size) ∙ w .long);
-        written = rw (e, map-last (λ k. k * size) i, ← g) (written-more (w .written) (i * size));
-      }
-
-  pub stepping-all : n ≤ i → Written ws dst (map (λ k. k * size) (upTo n)) (dst + n) vs
-  stepping-all l = let e : i ≡ n = omega (arith, w .high) in rw e at (w .written)
 
 -- ---- the indices
 -- the vertices of i entities are written

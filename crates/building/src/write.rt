@@ -1,26 +1,15 @@
 // The sets met, written as a relation.
 use book::Place;
 use relations::words::put;
+use settle::write_offsets;
 ghost use mathlib.Core.Path.{_≡_};
 ghost use mathlib.Core.List.{map};
-ghost use Prim.Native.Nat.{_+_, _*_, _≤_, _<_, _^_};
+ghost use Prim.Native.Nat.{_+_, _≤_, _<_, _^_};
 ghost use lib.ListN.{length};
 ghost use Rattle.rules.specs.Lists.{upTo, joined};
 ghost use Rattle.rules.specs.Book.{relation};
 ghost use Rattle.relations.specs.Words.{Written};
 ghost use Rattle.building.specs.Sets.{vertices};
-
-// Writes the n + 1 offsets of rows of `size` indices from `dst` on.
-fn write_offsets(book: &mut [u32], dst: Place, n: u32, size: u32)
-    requires { ⌜ (n ≤ 24576) × ((size ≤ 3) × (dst .0 < 2 ^ 63)) ⌝ }
-    ensures { λ _. ⌜ Written (now (book .entry)) (dst .0) (map (λ i. i * size) (upTo (n + 1))) (dst .0 + (n + 1)) (now (book .exit)) ⌝ }
-{
-    let first = dst.0;
-    for i in 0..n + 1 {
-        let at = first + i as usize;
-        put(book, Place(at), i * size);
-    }
-}
 
 // Writes the d + 1 vertices of entity i from `at` on.
 fn write_set(book: &mut [u32], sets: &[u32; 73728], at: Place, i: usize, d: u32)

@@ -1,17 +1,20 @@
 -- The words of a loaded mesh, place by place, in a book that has room for them.
 use mathlib.Core.Path.{_≡_, refl, sym, ap, _∙_}
-use mathlib.Core.List.{List}
-use Prim.Native.Nat.{ℕ, zero, suc, _+_, _*_, _%_, _^_, _≤_, _<_}
+use mathlib.Core.List.{List, _++_, map, append-assoc}
+use Prim.Native.Nat.{ℕ, zero, suc, _+_, _-_, _*_, _%_, _^_, _≤_, _<_}
 use native.Mathlib.Nat.{mul-le-mul-right, mul-le-mul-left, mul-comm}
 use native.Mathlib.Omega.{arith}
-use lib.ListN.{length, getD}
-use Rattle.rules.specs.Lists.{filled, sorted}
+use lib.ListN.{length, getD, take, drop, length-drop}
+use lib.Seq.{length-take-le, getD-take, getD-drop}
+use Rattle.rules.specs.Lists.{upTo, filled, spliced, sorted}
 use Rattle.rules.specs.File.{field, fileDim, fileCells, fileCell}
 use Rattle.rules.specs.Book.{key}
 use Rattle.rules.specs.Calls.{loaded}
 use Rattle.rules.proofs.Accepted.{length-filled}
 use Rattle.rules.proofs.Fields.{field-below, dim-below}
 use Rattle.rules.proofs.LoadedWords.{getD-filled, loaded-length, loaded-head, loaded-offset, loaded-vertex}
+use Rattle.rules.proofs.Steps.{rows-are}
+use Rattle.relations.specs.Words.{Written}
 use Rattle.loading.specs.Sizes.{Sized, vertexAt}
 
 pub cells-below : (f : List ℕ) → fileCells f < 8192
@@ -34,6 +37,22 @@ module _ (f : List ℕ) (dim used n : ℕ) (s : Sized f dim used n) where
 
   pub word : (i x : ℕ) → getD (loaded f) i 0 ≡ x → x ≡ getD wanted i 0
   word i x e = sym (getD-filled n (loaded f) i ∙ e)
+
+  -- the offsets that are written are those of the loaded words
+  module _ (cells : ℕ) (e : cells ≡ fileCells f) where
+    offsets-are : map (λ i. i * (dim + 1)) (upTo (cells + 1)) ≡ take (cells + 1) (drop 5 wanted)
+    offsets-are =
+        let long : cells + 1 ≤ length (drop 5 wanted) = rw (length-drop, wanted-length) (omega (arith, used-is, s .room)) in
+        sym
+        (rows-are (λ i. i * (dim + 1)) (cells + 1) (take (cells + 1) (drop 5 wanted)) 0 (length-take-le (cells + 1) (drop 5 wanted) long)
+        (λ i l. getD-take (cells + 1) (drop 5 wanted) i 0 l ∙ getD-drop 5 wanted i 0 ∙ rw (s .dims) (sym (word (5 + i) _ (loaded-offset f i (omega arith))))))
+
+    pub offsets-spliced : (ws vs : List ℕ) → length ws ≡ n → Written ws 5 (map (λ i. i * (dim + 1)) (upTo (cells + 1))) (5 + (cells + 1)) vs → vs ≡ spliced 5 (6 + cells) wanted ws
+    unfolding spliced
+    offsets-spliced ws vs k w =
+        let r : 5 + (cells + 1) ≡ 6 + cells = omega arith in
+        let m : 6 + cells - 5 ≡ cells + 1 = omega arith in
+        w .words (omega (arith, used-is, s .room)) ∙ rw (offsets-are, r, m) (simp append-assoc)
 
   -- a place of a cell's vertex lies before the used length
   pub vertex-inside : (c k : ℕ) → c < fileCells f → k ≤ fileDim f → vertexAt f c k < used

@@ -31,21 +31,6 @@ fn write_head(file: &[u8], book: &mut [u32], dim: u32, used: Place)
     book[4] = used.0 as u32;
 }
 
-// Writes the offsets: each cell has D + 1 vertices.
-fn write_offsets(file: &[u8], book: &mut [u32], dim: u32, cells: u32, used: Place)
-    requires { ⌜ Sized (now file) dim (used .0) (length (now book)) × (cells ≡ fileCells (now file)) ⌝ }
-    ensures { λ r. ⌜ now (book .exit) ≡ spliced 5 (6 + cells) (filled (length (now (book .entry))) (loaded (now (file .entry)))) (now (book .entry)) ⌝ }
-{
-    let size = dim + 1;
-    let mut offset: u32 = 0;
-    let mut i: usize = 0;
-    while i <= cells as usize {
-        book[5 + i] = offset;
-        offset += size;
-        i += 1;
-    }
-}
-
 // Writes a cell, its vertices ascending, from a place on.
 fn write_cell(file: &[u8], book: &mut [u32], dim: u32, c: Cell, at: Place, used: Place)
     requires { ⌜ Sized (now file) dim (used .0) (length (now book)) × ((c .0 < fileCells (now file)) × (at .0 ≡ vertexAt (now file) (c .0) 0)) ⌝ }
@@ -87,7 +72,7 @@ pub fn fill(file: &[u8], book: &mut [u32])
     let cells = dayfile::cells(head);
     let used = end_of(head);
     write_head(file, book, dim, used);
-    write_offsets(file, book, dim, cells, used);
+    settle::write_offsets(book, Place(5), cells, dim + 1);
     write_cells(file, book, dim, cells, used);
     settle::clear(book, used);
 }

@@ -5,11 +5,12 @@ use native.Mathlib.Omega.{arith}
 use lib.ListN.{length}
 use Rattle.rules.specs.File.{fileDim, fileCells}
 use Rattle.rules.specs.Calls.{loaded}
+use Rattle.rules.proofs.Fields.{dim-below}
 use Rattle.rules.proofs.Head.{head-dim, head-cells}
 use Rattle.rules.proofs.LoadedWords.{loaded-length}
 use Rattle.rules.proofs.Spliced.{Splicing, splicing-none, splicing-length, splicing-on}
 use Rattle.loading.specs.Sizes.{Sized}
-use Rattle.loading.proofs.Sizes.{wanted-length, used-is}
+use Rattle.loading.proofs.Sizes.{cells-below, wanted-length, used-is, offsets-spliced}
 use Rattle.loading.proofs.Whole.{whole}
 use borrow.Author.Needs.{needs}
 use Rattle.loading.proofs.fill.Statement.{statement}
@@ -22,7 +23,7 @@ use Rattle.dayfile.proofs.header.Reads as header-reads
 use Rattle.loading.proofs.end_of.Reads as end-of-reads
 use Rattle.loading.proofs.write_cells.Reads as write-cells-reads
 use Rattle.loading.proofs.write_head.Reads as write-head-reads
-use Rattle.loading.proofs.write_offsets.Reads as write-offsets-reads
+use Rattle.settle.proofs.write_offsets.Reads as write-offsets-reads
 use Rattle.settle.proofs.clear.Reads as clear-reads
 
 header-requires : tie.Need-header-requires
@@ -52,11 +53,19 @@ sized c =
 write-head-requires : tie.Need-write-head-requires
 write-head-requires c κs = sized (c .before)
 
+add-write-offsets : tie.Need-add-write-offsets
+add-write-offsets c =
+    let w = c .before .before .before .before .before in
+    omega (arith, (sized w) .dims, dim-below (w .before .before .before .before .before .before .args .file .now))
+
 write-offsets-requires : tie.Need-write-offsets-requires
-write-offsets-requires c κs = (rw (c .before .before .before .write-head .kept .1 .0) (sized (c .before .before .before .before .before)), cells-are (c .before .before .before .before .before))
+write-offsets-requires c κs =
+    let w = c .before .before .before .before .before in
+    let f = w .before .before .before .before .before .before .args .file .now in
+    (omega (arith, cells-are w, cells-below f), (omega (arith, (sized w) .dims, dim-below f), omega arith))
 
 write-cells-requires : tie.Need-write-cells-requires
-write-cells-requires c κs = (rw (c .before .before .before .write-offsets .kept .1 .0, c .before .before .before .before .before .before .before .write-head .kept .1 .0) (sized (c .before .before .before .before .before .before .before .before .before)), cells-are (c .before .before .before .before .before .before .before .before .before))
+write-cells-requires c κs = (rw (c .before .before .before .write-offsets .kept .0, c .before .before .before .before .before .before .before .write-head .kept .1 .0) (sized (c .before .before .before .before .before .before .before .before .before)), cells-are (c .before .before .before .before .before .before .before .before .before))
 
 clear-requires : tie.Need-clear-requires
 clear-requires c κs = search needs
@@ -72,9 +81,9 @@ returns c = let s = c .before .before .before .before .before .before .before .b
     let n = cells-are w in
     let k = c .before .before .before .before .before .before .before .before .before .before .before .before .before .before .write-head .kept .1 .0 in
     let a = splicing-on _ _ _ _ _ (splicing-none _ _ 0 (omega arith) (wanted-length _ _ _ _ z)) 5 _ (omega arith) (omega (arith, z .room)) (c .before .before .before .before .before .before .before .before .before .before .before .before .before .before .write-head .ensures) in
-    let o = rw k at (c .before .before .before .before .before .before .before .before .before .before .write-offsets .ensures) in
+    let o = offsets-spliced _ _ _ _ z _ n _ _ k (c .before .before .before .before .before .before .before .before .before .before .write-offsets .ensures) in
     let b = splicing-on _ _ _ _ _ a _ _ (omega arith) (omega (arith, z .room)) o in
-    let q = rw (c .before .before .before .before .before .before .before .before .before .before .write-offsets .kept .1 .0, k) at (c .before .before .before .before .before .before .write-cells .ensures) in
+    let q = rw (c .before .before .before .before .before .before .before .before .before .before .write-offsets .kept .0, k) at (c .before .before .before .before .before .before .write-cells .ensures) in
     let d = splicing-on _ _ _ _ _ b _ _ (omega arith) (z .room) q in
     c .before .before .clear .ensures ∙ whole _ _ _ _ (z .size) d
 
@@ -87,6 +96,7 @@ fill-spec =
     cells-requires
     end-of-requires
     write-head-requires
+    add-write-offsets
     write-offsets-requires
     write-cells-requires
     clear-requires

@@ -2,9 +2,9 @@
 use native.Mathlib.Nat.{mul-le-mul-left}
 use Prim.Native.Nat.{_-_, _+_}
 use native.Mathlib.Omega.{arith}
-use Rattle.building.proofs.Rows.{Stepping, stepping-none, stepping-more, stepping-all}
-use Rattle.building.proofs.write.write_offsets.Statement.{statement}
-use Rattle.building.proofs.write.write_offsets.Tie as tie
+use Rattle.settle.proofs.Stepping.{Stepping, stepping-none, stepping-more, stepping-all}
+use Rattle.settle.proofs.offsets.write_offsets.Statement.{statement}
+use Rattle.settle.proofs.offsets.write_offsets.Tie as tie
 
 abbrev Inv-loop : tie.InvT-loop
 Inv-loop book₀ n size first i₀ i-end book i = Stepping book₀ first (n + 1) size book i
