@@ -52,10 +52,10 @@ pub fn settle(book: &mut [u32], at: Place, used: Place, end: Place)
 pub fn clear(book: &mut [u32], from: Place)
     ensures { λ r. ⌜ now (book .exit) ≡ cleared (from .0) (now (book .entry)) ⌝ }
 {
-    let mut i = from.0;
-    while i < book.len() {
-        book[i] = 0;
-        i += 1;
+    let mut at = from.0;
+    while at < book.len() {
+        book[at] = 0;
+        at += 1;
     }
 }
 

@@ -9,10 +9,10 @@ use Rattle.settle.proofs.clear.Reads as reads
 use Rattle.settle.proofs.clear.Lts as lts
 
 abbrev Inv-loop : tie.InvT-loop
-Inv-loop book₀ i₀ book i = Clearing book₀ i₀ i book
+Inv-loop book₀ at₀ book at = Clearing book₀ at₀ at book
 
 abbrev μ-loop : tie.MeasureT-loop
-μ-loop book₀ i₀ book i = length book - i
+μ-loop book₀ at₀ book at = length book - at
 
 loop-holds : tie.Need-loop-holds Inv-loop μ-loop
 loop-holds c = clearing-none _ _
@@ -23,8 +23,8 @@ mul-book c = omega arith
 slice-write-book : tie.Need-slice-write-book Inv-loop μ-loop
 slice-write-book c = omega arith
 
-add-i : tie.Need-add-i Inv-loop μ-loop
-add-i c = omega arith
+add-at : tie.Need-add-at Inv-loop μ-loop
+add-at c = omega arith
 
 loop-less : tie.Need-loop-less Inv-loop μ-loop
 loop-less c = simp length-set (omega arith)
@@ -47,7 +47,7 @@ clear-spec =
     loop-holds
     mul-book
     slice-write-book
-    add-i
+    add-at
     loop-less
     loop-again
     same-length
