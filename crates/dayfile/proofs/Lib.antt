@@ -4,3 +4,4 @@ pub mod Filled
 pub mod Four
 pub mod Network
 pub mod Numbers
+pub mod Determined

@@ -1,0 +1,33 @@
+-- Two outcomes that a contract of this crate allows are equal.
+use mathlib.Core.Path.{_≡_, sym, _∙_}
+use mathlib.Core.List.{List}
+use Prim.Native.Nat.{ℕ}
+use Rattle.rules.specs.File.{field, headLength, putFile}
+use Rattle.rules.specs.Calls.{fileNumber, faultCell}
+use Rattle.dayfile.specs.declared.kinds.Header.{Header}
+use Rattle.dayfile.specs.declared.kinds.Corners.{Corners}
+use Rattle.dayfile.specs.declared.kinds.Fault.{Fault}
+use Rattle.dayfile.specs.Faults.{faultOf}
+use Rattle.dayfile.specs.Numbers.{numbers}
+use Rattle.dayfile.proofs.Numbers.{numbers-same}
+
+-- the first 32 bits
+pub headers-equal : (f : List ℕ) (h k : Header) → h .0 ≡ field f 0 32 → k .0 ≡ field f 0 32 → h ≡ k
+headers-equal f h k e g = λ i. record { 0 = (e ∙ sym g) i }
+
+-- what a head says of itself, by one of its definitions: D, N_0, N_D, the spare bits, the file's length
+pub parts-equal : (part : ℕ → ℕ) (h : Header) (r s : ℕ) → r ≡ part (h .0) → s ≡ part (h .0) → r ≡ s
+parts-equal part h r s e g = e ∙ sym g
+
+-- a cell's vertices
+pub corners-equal : (ns : List ℕ) (p q : Corners) → numbers (p .vertices) ≡ ns → numbers (q .vertices) ≡ ns → p ≡ q
+corners-equal ns p q e g = λ i. record { vertices = numbers-same (p .vertices) (q .vertices) (e ∙ sym g) i }
+
+-- the first fault
+pub faults-equal : (f : List ℕ) (a b : Fault) → a ≡ faultOf (fileNumber f) (faultCell f) → b ≡ faultOf (fileNumber f) (faultCell f) → a ≡ b
+faults-equal f a b e g = e ∙ sym g
+
+-- the length that Write gives, and the bytes after it
+pub files-equal : (h : Header) (vs bs : List ℕ) (r s : ℕ) (cs ds : List ℕ) → (r ≡ headLength (h .0)) × (cs ≡ putFile (h .0) vs bs)
+    → (s ≡ headLength (h .0)) × (ds ≡ putFile (h .0) vs bs) → (r ≡ s) × (cs ≡ ds)
+files-equal h vs bs r s cs ds e g = (e .0 ∙ sym (g .0), e .1 ∙ sym (g .1))
