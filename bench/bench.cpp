@@ -74,14 +74,16 @@ static double now() {
     return std::chrono::duration<double, std::micro>(std::chrono::steady_clock::now().time_since_epoch()).count();
 }
 
-// The best of some runs, each on a fresh copy.
+// The best of some runs, each on a fresh copy; more of them as long as they take less than 50 ms together.
 template <class Copy, class Run> double best(Copy copy, Run run, int times) {
-    double least = 1e300;
-    for (int k = 0; k < times; k++) {
+    double least = 1e300, spent = 0;
+    for (int k = 0; k < times || spent < 50000; k++) {
         auto state = copy();
         double from = now();
         run(state);
-        least = std::min(least, now() - from);
+        double took = now() - from;
+        least = std::min(least, took);
+        spent += took;
     }
     return least;
 }
