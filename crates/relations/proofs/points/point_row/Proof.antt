@@ -8,7 +8,10 @@ use Rattle.relations.proofs.points.point_row.Tie as tie
 
 -- the function's entry, from the place where the row's bounds are read
 abbrev start : tie.After-start-of2 → tie.Start
-start b = b .before .before .before .before .before
+start b = b .before .before .before .before .before .before
+
+cast-at : tie.Need-cast-at
+cast-at c = search needs
 
 start-of-requires : tie.Need-start-of-requires
 start-of-requires c κs = search needs
@@ -22,13 +25,13 @@ start-of-requires-2 c κs = search needs
 sub-if1 : tie.Need-sub-if1
 sub-if1 c =
     let s = start c in
-    row-rises _ _ _ _ _ _ (s .pre .0 .through) (omega arith) (s .args .i) (s .pre .1 .1 .0) _ _ (c .before .before .start-of .ensures) (c .start-of2 .ensures)
+    row-rises _ _ _ _ _ _ (s .pre .0 .through) (omega arith) (s .args .i .0) (s .pre .1 .1 .0) _ _ (c .before .before .start-of .ensures) (c .start-of2 .ensures)
 
 neighbour-row-requires : tie.Need-neighbour-row-requires
 neighbour-row-requires c κs =
     let b = c .before .before in
     let s = start b in
-    let l = row-length _ _ _ _ _ _ (s .pre .0 .through) (omega arith) (s .args .i) (s .pre .1 .1 .0) _ _ (b .before .before .start-of .ensures) (b .start-of2 .ensures) in
+    let l = row-length _ _ _ _ _ _ (s .pre .0 .through) (omega arith) (s .args .i .0) (s .pre .1 .1 .0) _ _ (b .before .before .start-of .ensures) (b .start-of2 .ensures) in
     (s .pre .0 .through, (s .pre .1 .1 .0, (omega (arith, l, c .before .if1 .taken), omega (arith, s .pre .0 .most, s .pre .1 .1 .1))))
 
 same-length : tie.Need-same-length
@@ -50,6 +53,7 @@ pub point-row-spec : {M : Type 1} → statement M
 point-row-spec =
     tie.close
     (tie.spec
+    cast-at
     start-of-requires
     add-start-of
     start-of-requires-2

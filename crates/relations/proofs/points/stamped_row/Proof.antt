@@ -17,14 +17,17 @@ use Rattle.relations.proofs.words.start_of.Reads as start-of-reads
 
 -- the function's entry, from the place after the stamps
 abbrev start : tie.After-meet-all → tie.Start
-start c = c .before .before .before .before .before .before .before .before .before .before
+start c = c .before .before .before .before .before .before .before .before .before .before .before .before
 
 met-is : (c : tie.After-meet-all) → let a = start c .args in
-    Met (now (a .met)) (now (a .touched)) (now (a .blocks)) (a .i + 1) (around (start c .pre .0) (a .i) (start c .pre .1 .1 .0))
+    Met (now (a .met)) (now (a .touched)) (now (a .blocks)) (a .i .0 + 1) (around (start c .pre .0) (a .i .0) (start c .pre .1 .1 .0))
     (c .meet-all .last .1 .0) (c .meet-all .last .1 .1 .0) (c .meet-all .last .1 .1 .1 .0)
 met-is c =
-    let second = c .before .before .before .before .before in
-    rw (second .before .before .start-of .ensures, second .start-of2 .ensures, row-slice _ _ _ (start c .args .i)) at (c .meet-all .ensures)
+    let second = c .before .before .before .before .before .before in
+    rw (second .before .before .start-of .ensures, second .start-of2 .ensures, row-slice _ _ _ (start c .args .i .0)) at (c .meet-all .ensures)
+
+cast-at : tie.Need-cast-at
+cast-at c = search needs
 
 start-of-requires : tie.Need-start-of-requires
 start-of-requires c κs = search needs
@@ -40,10 +43,10 @@ add-stamp c = search needs
 
 meet-all-requires : tie.Need-meet-all-requires
 meet-all-requires c κs =
-    let second = c .before .before .before .before in
-    let s = second .before .before .before .before .before in
+    let second = c .before .before .before .before .before in
+    let s = second .before .before .before .before .before .before in
     let w = s .pre .0 .through in
-    let i = s .args .i in
+    let i = s .args .i .0 in
     rw (second .before .before .start-of .ensures, second .start-of2 .ensures) (
       start-rises (w .owned) i (i + 1) (omega arith) (omega (arith, s .pre .1 .1 .0)),
       (
@@ -73,8 +76,8 @@ write-met-requires c κs =
     let q = start m .pre in (
       omega (arith, q .0 .most),
       (
-        point-groups (q .0) (start m .args .i) (q .1 .1 .0) (q .1 .0) (met-is m),
-        (point-blocks (q .0) (start m .args .i) (q .1 .1 .0) (q .1 .0) (met-is m), q .1 .1 .1),
+        point-groups (q .0) (start m .args .i .0) (q .1 .1 .0) (q .1 .0) (met-is m),
+        (point-blocks (q .0) (start m .args .i .0) (q .1 .1 .0) (q .1 .0) (met-is m), q .1 .1 .1),
       ),
     )
 
@@ -85,14 +88,15 @@ returns : tie.Need-returns
 returns c =
     let m = c .before .before .before .before .before .before .before in
     let q = start m .pre in (
-      rw (point-row-is (q .0) (start m .args .i) (q .1 .1 .0) (q .1 .0) (met-is m)) at (c .before .before .write-met .ensures),
-      point-fresh (q .0) (start m .args .i) (q .1 .1 .0) (q .1 .0) (met-is m),
+      rw (point-row-is (q .0) (start m .args .i .0) (q .1 .1 .0) (q .1 .0) (met-is m)) at (c .before .before .write-met .ensures),
+      point-fresh (q .0) (start m .args .i .0) (q .1 .1 .0) (q .1 .0) (met-is m),
     )
 
 pub stamped-row-spec : {M : Type 1} → statement M
 stamped-row-spec =
     tie.close
     (tie.spec
+    cast-at
     start-of-requires
     add-start-of
     start-of-requires-2

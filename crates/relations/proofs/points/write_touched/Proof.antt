@@ -20,8 +20,11 @@ returns c =
     let a = s .args in
     rw (untouched-none 16 (now (a .met)) (now (a .touched)) (a .stamp) (a .g) (s .pre .1 .0) (c .if1 .taken)) (written-none _ _ _ refl)
 
-mul-write-group : tie.Need-mul-write-group
-mul-write-group c = search needs
+mul-first : tie.Need-mul-first
+mul-first c = search needs
+
+cast-first : tie.Need-cast-first
+cast-first c = search needs
 
 write-group-requires : tie.Need-write-group-requires
 write-group-requires c κs = search needs
@@ -39,7 +42,8 @@ write-touched-spec =
     mul-if1
     element-copy-out-if1
     returns
-    mul-write-group
+    mul-first
+    cast-first
     write-group-requires
     same-length
     returns-2)
