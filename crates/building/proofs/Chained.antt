@@ -11,7 +11,7 @@ use Rattle.rules.specs.Lists.{anyOf, same}
 use Rattle.rules.specs.Made.{met}
 use Rattle.rules.proofs.Compared.{same-or-not}
 use Rattle.rules.proofs.Numbered.{last-or-below}
-use Rattle.relations.proofs.Counts.{none-yet}
+use Rattle.rules.proofs.RightBook.{getD-zeros}
 use Rattle.building.specs.Sets.{entity, entities, Newest, Links, Chains}
 use Rattle.building.proofs.Entities.{entities-front, entities-more, newest-any}
 
@@ -25,7 +25,7 @@ chains-none a b c p q r = record {
     older = λ i l. absurd (omega arith);
   };
   head-long = length-replicate {A = ℕ} b 0 ∙ q;
-  newest = λ v l. rw (none-yet b v) (record { within = omega arith; none = λ i a b. absurd (omega arith); lowest = λ i e. absurd (omega arith) });
+  newest = λ v l. rw (getD-zeros b v) (record { within = omega arith; none = λ i a b. absurd (omega arith); lowest = λ i e. absurd (omega arith) });
 }
 
 -- words that are alike below 3n have the same chains below n

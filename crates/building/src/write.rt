@@ -1,7 +1,7 @@
 // The sets met, written as a relation.
 use book::Place;
 use relations::words::put;
-use settle::write_offsets;
+use relations::words::write_offsets;
 ghost use mathlib.Core.Path.{_≡_};
 ghost use mathlib.Core.List.{map};
 ghost use Prim.Native.Nat.{_+_, _≤_, _<_, _^_};

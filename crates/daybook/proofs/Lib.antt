@@ -1,7 +1,3 @@
 pub mod Loading
-pub mod Writing
-pub mod RowCases
-pub mod NumberCases
-pub mod Signed
 pub mod Alike
 pub mod MakeCases

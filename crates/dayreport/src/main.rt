@@ -20,7 +20,7 @@ fn main() {
             return;
         }
     }
-    let length = report::answer(&file[..size], &mut book, &mut out);
+    let length = answering::answer(&file[..size], &mut book, &mut out);
     if !io::write_all(STDOUT_FILENO, &out[..length]) {
         os::fail(b"standard output");
     }

@@ -72,7 +72,7 @@ pub fn fill(file: &[u8], book: &mut [u32])
     let cells = dayfile::cells(head);
     let used = end_of(head);
     write_head(file, book, dim, used);
-    settle::write_offsets(book, Place(5), cells, dim + 1);
+    relations::words::write_offsets(book, Place(5), cells, dim + 1);
     write_cells(file, book, dim, cells, used);
     settle::clear(book, used);
 }

@@ -60,14 +60,14 @@ fn append(book: &mut [u32], d: u32, e: u32, used: Place) -> Appended
         let own = source_of(book, 0, top);
         let back = source_of(book, top, 0);
         return Appended {
-            end: relations::points::vertex_neighbours(book, own, back, used),
+            end: points::vertex_neighbours(book, own, back, used),
             rows: 0,
         };
     }
     if d < e {
         let source = source_of(book, e, d);
         return Appended {
-            end: relations::transpose::transpose(book, source, used),
+            end: transposing::transpose(book, source, used),
             rows: 0,
         };
     }
@@ -76,12 +76,12 @@ fn append(book: &mut [u32], d: u32, e: u32, used: Place) -> Appended
     if e < d {
         let sub = source_of(book, e, 0);
         return Appended {
-            end: relations::merge::insides(book, own, back, sub, used),
+            end: intersecting::insides(book, own, back, sub, used),
             rows: 0,
         };
     }
     Appended {
-        end: relations::merge::neighbours(book, own, back, used),
+        end: merging::neighbours(book, own, back, used),
         rows: 0,
     }
 }

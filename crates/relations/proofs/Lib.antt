@@ -1,23 +1,9 @@
--- Laws for the proofs of this crate.
-mod Ranges
+-- Laws of a relation among the words, for the proofs of this crate and of the makers.
+pub mod Ranges
 pub mod Placed
-mod Parts
-mod Merging
-mod Turns
-mod Inside
-mod Front
-mod Standing
-mod Filled
-mod RowByRow
 pub mod Appended
-pub mod Counts
-mod Running
-mod Fills
-mod FillsAll
-mod Picks
-mod Marked
-mod Turning
+pub mod Filled
+pub mod RowByRow
+pub mod Stepping
 pub mod Linked
 pub mod Right
-mod Stamps
-mod PointRows

@@ -1,7 +1,4 @@
-// New relations, made from what the book stores and written behind the used words: Transpose, Intersection, neighbours.
-pub mod merge;
-pub mod points;
-pub mod transpose;
+// A relation among the words of the book: where its rows start, and how a new one is written behind the used words.
 pub mod words;
 
 use book::Place;

@@ -2,7 +2,5 @@
 mod Putting
 mod Decimal
 mod Texts
-mod Asking
-mod Refusing
 pub mod Determined
 pub mod Example

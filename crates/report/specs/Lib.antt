@@ -1,3 +1,2 @@
 pub mod Lines
 pub mod Printed
-pub mod Program

@@ -1,8 +1,5 @@
 // The report: the lines that the program prints for a book, on a refusal and on a file that is too long, put into lent bytes.
 // A store past the end of the bytes does nothing.
-mod program;
-
-pub use program::answer;
 ghost use mathlib.Core.Path.{_≡_};
 ghost use mathlib.Core.Bool.{cond};
 ghost use mathlib.Core.List.{[], _∷_, map};

@@ -3,4 +3,3 @@ pub mod Settling
 pub mod Clearing
 pub mod Placed
 pub mod Lowering
-pub mod Stepping

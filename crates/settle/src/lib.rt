@@ -1,8 +1,4 @@
 // Words moved within the book: a relation that was written behind the used words goes to its place by key, and free words are set to 0.
-// And the offsets of rows of one size, which a file's cells and Build's entities have.
-mod offsets;
-
-pub use offsets::write_offsets;
 ghost use mathlib.Core.Path.{_≡_};
 ghost use Prim.Native.Nat.{_+_, _-_, _^_, _≤_, _<_};
 ghost use lib.ListN.{length, getD};

@@ -2,13 +2,13 @@
 use mathlib.Core.Path.{_≡_, refl, sym, ap, _∙_}
 use mir.Syntax.{w64}
 use mir.ValLaws.{toZ-ofZ}
-use Rattle.daybook.specs.Answers.{eulerAnswer, eulerValue}
+use Rattle.reading.specs.Answers.{eulerAnswer, eulerValue}
 use borrow.Author.Needs.{needs}
 use Rattle.daybook_c.proofs.daybook_euler.Statement.{statement}
 use Rattle.daybook_c.proofs.daybook_euler.Tie as tie
 use Rattle.daybook_c.proofs.daybook_euler.Reads as reads
 use Rattle.daybook_c.proofs.daybook_euler.Lts as lts
-use Rattle.daybook.proofs.euler.Reads as euler-reads
+use Rattle.reading.proofs.euler.Reads as euler-reads
 
 -- src/lib.rt:101:11
 euler-requires : tie.Need-euler-requires

@@ -1,12 +1,12 @@
 -- Each answer has its number; where accepted, the count.
 use mathlib.Core.Path.{_≡_, refl, sym, ap, _∙_}
-use Rattle.daybook.specs.Answers.{countedNumber, countedRelations}
+use Rattle.reading.specs.Answers.{countedNumber, countedRelations}
 use borrow.Author.Needs.{needs}
 use Rattle.daybook_c.proofs.daybook_held_count.Statement.{statement}
 use Rattle.daybook_c.proofs.daybook_held_count.Tie as tie
 use Rattle.daybook_c.proofs.daybook_held_count.Reads as reads
 use Rattle.daybook_c.proofs.daybook_held_count.Lts as lts
-use Rattle.daybook.proofs.held_count.Reads as held-count-reads
+use Rattle.reading.proofs.held_count.Reads as held-count-reads
 
 -- src/lib.rt:118:11
 held-count-requires : tie.Need-held-count-requires

@@ -14,8 +14,8 @@ use Rattle.daybook_c.proofs.daybook_row.Tie as tie
 use Rattle.daybook_c.proofs.daybook_row.Reads as reads
 use Rattle.daybook_c.proofs.daybook_row.Lts as lts
 use Rattle.book.proofs.key.Reads as key-reads
-use Rattle.daybook.proofs.row.Reads as row-reads
-use Rattle.daybook.proofs.row_number.Reads as row-number-reads
+use Rattle.reading.proofs.row.Reads as row-reads
+use Rattle.reading.proofs.row_number.Reads as row-number-reads
 use Rattle.daybook_c.proofs.place_of_row.Reads as place-of-row-reads
 
 -- src/lib.rt:67:9

@@ -1,12 +1,12 @@
 -- Each answer has its number; where accepted, the length.
 use mathlib.Core.Path.{_≡_, refl, sym, ap, _∙_}
-use Rattle.daybook.specs.Answers.{writtenNumber, writtenLength}
+use Rattle.reading.specs.Answers.{writtenNumber, writtenLength}
 use borrow.Author.Needs.{needs}
 use Rattle.daybook_c.proofs.daybook_write.Statement.{statement}
 use Rattle.daybook_c.proofs.daybook_write.Tie as tie
 use Rattle.daybook_c.proofs.daybook_write.Reads as reads
 use Rattle.daybook_c.proofs.daybook_write.Lts as lts
-use Rattle.daybook.proofs.write.Reads as write-reads
+use Rattle.reading.proofs.write.Reads as write-reads
 
 -- src/lib.rt:84:11
 write-requires : tie.Need-write-requires

@@ -23,7 +23,7 @@ use Rattle.dayfile.proofs.header.Reads as header-reads
 use Rattle.loading.proofs.end_of.Reads as end-of-reads
 use Rattle.loading.proofs.write_cells.Reads as write-cells-reads
 use Rattle.loading.proofs.write_head.Reads as write-head-reads
-use Rattle.settle.proofs.write_offsets.Reads as write-offsets-reads
+use Rattle.relations.proofs.words.write_offsets.Reads as write-offsets-reads
 use Rattle.settle.proofs.clear.Reads as clear-reads
 
 header-requires : tie.Need-header-requires

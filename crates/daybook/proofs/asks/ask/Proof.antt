@@ -8,7 +8,8 @@ use Rattle.rules.specs.Book.{dim}
 use Rattle.rules.proofs.Needs.{key-div, key-mod}
 use Rattle.making.specs.Growth.{wanted, answered}
 use Rattle.daybook.specs.Answers.{askedNumber}
-use Rattle.daybook.proofs.Writing.{broken, unbroken, top-low}
+use Rattle.rules.proofs.Tests.{broken, unbroken}
+use Rattle.rules.proofs.FrameRule.{framed}
 use Rattle.daybook.proofs.MakeCases.{Asks, ask-frame, ask-rows, ask-first, ask-second, ask-whole}
 use borrow.Author.Needs.{needs}
 use Rattle.daybook.proofs.asks.ask.Statement.{statement}
@@ -113,7 +114,7 @@ key-requires c κs =
     let t = c .before .before .before .dim .ensures in
     let a : d ≤ dim ws = rw t at (c .before .before .if3 .left) in
     let b : e ≤ dim ws = rw t at (c .before .if4 .left) in
-    let h = top-low ws f r in
+    let h = framed ws f .high in
     (omega arith, omega arith)
 
 -- src/asks.rt:25:9
@@ -129,7 +130,7 @@ ask-for-requires c κs =
     let a : d ≤ dim ws = rw t at (c .before .before .before .if3 .left) in
     let b : e ≤ dim ws = rw t at (c .before .before .if4 .left) in
     let k = c .key .ensures in
-    let h = top-low ws f r in
+    let h = framed ws f .high in
     rw k (record { frame = f; rows = r; first = rw (key-div d e (omega arith)) a; second = rw (key-mod d e (omega arith)) b })
 
 -- src/asks.rt:26:9

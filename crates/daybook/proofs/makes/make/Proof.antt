@@ -7,7 +7,8 @@ use borrow.Author.Tests.{not-true, not-false}
 use Rattle.rules.specs.Book.{dim, key, held}
 use Rattle.making.specs.Growth.{grown}
 use Rattle.daybook.specs.Answers.{madeNumber}
-use Rattle.daybook.proofs.Writing.{broken, unbroken, top-low}
+use Rattle.rules.proofs.Tests.{broken, unbroken}
+use Rattle.rules.proofs.FrameRule.{framed}
 use Rattle.daybook.proofs.MakeCases.{Makes, make-frame, make-rows, make-first, make-second, make-held, make-need, make-whole}
 use borrow.Author.Needs.{needs}
 use Rattle.daybook.proofs.makes.make.Statement.{statement}
@@ -114,7 +115,7 @@ key-requires c κs =
     let t = c .before .before .before .dim .ensures in
     let a : d ≤ dim ws = rw t at (c .before .before .if3 .left) in
     let b : e ≤ dim ws = rw t at (c .before .if4 .left) in
-    let h = top-low ws f r in
+    let h = framed ws f .high in
     (omega arith, omega arith)
 
 -- src/makes.rt:47:8
@@ -156,7 +157,7 @@ needs-held-requires c κs =
     let b : e ≤ dim ws = rw t at (c .before .before .before .before .before .if4 .left) in
     let k = c .before .before .before .key .ensures in
     let o : held ws (key d e) ≡ false = ap (held ws) (sym k) ∙ sym (c .before .before .held .ensures) ∙ c .before .if5 .left in
-    let h = top-low ws f r in
+    let h = framed ws f .high in
     (omega arith, (omega arith, h))
 
 -- src/makes.rt:51:9

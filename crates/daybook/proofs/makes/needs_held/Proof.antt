@@ -13,7 +13,7 @@ use Rattle.rules.specs.Book.{held}
 use Rattle.rules.proofs.Steps.{all-taken-are, all-taken-not}
 use Rattle.rules.proofs.AnyWords.{needs-few}
 use Rattle.book.proofs.Listed.{listed}
-use Rattle.daybook.proofs.Writing.{broken, unbroken}
+use Rattle.rules.proofs.Tests.{broken, unbroken}
 use Rattle.daybook.proofs.makes.needs_held.Statement.{statement}
 use Rattle.daybook.proofs.makes.needs_held.Tie as tie
 use Rattle.daybook.proofs.makes.needs_held.Reads as reads

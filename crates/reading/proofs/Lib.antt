@@ -1,0 +1,5 @@
+pub mod Writing
+pub mod RowCases
+pub mod NumberCases
+pub mod Signed
+pub mod Alike

@@ -1,0 +1,41 @@
+// Write: the day file of the book's mesh.
+use crate::answers::Written;
+use book::Place;
+use dayfile::Header;
+ghost use mathlib.Core.Path.{_≡_};
+ghost use mathlib.Core.Bool.{true};
+ghost use Rattle.rules.specs.Book.{frameRight, rowsRight};
+ghost use Rattle.rules.specs.Calls.{writeNumber, writeLength, writeBytes};
+ghost use Rattle.reading.specs.Answers.{writtenNumber, writtenLength};
+ghost use Rattle.reading.specs.Parts.{FilePut};
+
+// Writes the file of a right book, if the bytes have room for it, and gives its length.
+fn put_file(book: &[u32], bytes: &mut [u8]) -> usize
+    requires { ⌜ (frameRight (now book) ≡ true) × (rowsRight (now book) ≡ true) ⌝ }
+    ensures { λ r. ⌜ FilePut (now (book .entry)) (now (bytes .entry)) r (now (bytes .exit)) ⌝ }
+{
+    let top = book::dim(book);
+    let k = book::key(top, 0);
+    let first = book::place_of(book, k).0 + book::count(book, top) as usize + 1;
+    let end = first + book::total(book, k) as usize;
+    dayfile::write(Header(book::word(book, Place(0))), &book[first..end], bytes)
+}
+
+// Writes the book's file, each cell's vertices ascending, and gives its length; later bytes stay as they were. Refusals: 10, 11, 18.
+pub fn write(book: &[u32], bytes: &mut [u8]) -> Written
+    ensures number { λ r. ⌜ writtenNumber r ≡ writeNumber (now (book .entry)) (now (bytes .entry)) ⌝ }
+    ensures length { λ r. ⌜ (writtenNumber r ≡ 0 → writtenLength r ≡ writeLength (now (book .entry))) ⌝ }
+    ensures bytes { λ r. ⌜ now (bytes .exit) ≡ writeBytes (now (book .entry)) (now (bytes .entry)) ⌝ }
+{
+    if !book::frame_right(book) {
+        return Written::FrameBroken;
+    }
+    if !book::rows_right(book) {
+        return Written::RowsBroken;
+    }
+    let n = put_file(book, bytes);
+    if bytes.len() < n {
+        return Written::BufferTooShort;
+    }
+    Written::Bytes(n)
+}
