@@ -44,9 +44,11 @@ def built():
     folder = os.path.join(TOP, "target", "compare")
     os.makedirs(folder, exist_ok=True)
     program = os.path.join(folder, "driver")
+    mine = "%s.%d" % (program, os.getpid())
     compiler, run = tools()
     subprocess.run(compiler + ["-std=c11", "-O2", "-Wall", "-Wextra", "-static", "-I", os.path.join(TOP, "include"),
-                   os.path.join(HERE, "driver.c"), archive, "-o", program], check=True)
+                   os.path.join(HERE, "driver.c"), archive, "-o", mine], check=True)
+    os.replace(mine, program)  # two runs side by side never meet half a program
     return run + [program]
 
 
