@@ -1,4 +1,4 @@
-pub mod Mirrors
+pub mod Moves
 pub mod Settling
 pub mod Clearing
 pub mod Placed

@@ -1,7 +1,7 @@
 -- Words moved within the book, as lists.
 use mathlib.Core.Path.{_≡_}
 use mathlib.Core.List.{List, _++_}
-use Prim.Native.Nat.{ℕ, suc, _+_, _-_, _≤_, _<_}
+use Prim.Native.Nat.{ℕ, _+_, _-_, _≤_, _<_}
 use mathlib.Core.Bool.{true}
 use lib.ListN.{length, getD, take, drop, set, replicate}
 use Rattle.rules.specs.Book.{named, held, rowsOf, relations, frameRight, rowsRight}
@@ -11,16 +11,32 @@ pub record Within (from to n : ℕ) : Type 0 where
   pub order : from ≤ to
   pub inside : to ≤ n
 
--- the words with those at i and j exchanged
-unfoldable pub swapped : ℕ → ℕ → List ℕ → List ℕ
-swapped i j ws = set (set ws i (getD ws j 0)) j (getD ws i 0)
-
--- vs is ws with the words from a up to, but without, b the other way round
-pub record Mirrored (ws : List ℕ) (a b : ℕ) (vs : List ℕ) : Type 0 where
+-- vs is ws with the n words from p on and the n words from u on exchanged
+pub record Exchanged (ws : List ℕ) (p u n : ℕ) (vs : List ℕ) : Type 0 where
   pub size : length vs ≡ length ws
-  pub turned : (k : ℕ) → a ≤ k → k < b → getD vs k 0 ≡ getD ws (a + b - suc k) 0
-  pub below : (k : ℕ) → k < a → getD vs k 0 ≡ getD ws k 0
-  pub above : (k : ℕ) → b ≤ k → getD vs k 0 ≡ getD ws k 0
+  pub first : (k : ℕ) → k < n → getD vs (p + k) 0 ≡ getD ws (u + k) 0
+  pub second : (k : ℕ) → k < n → getD vs (u + k) 0 ≡ getD ws (p + k) 0
+  pub below : (k : ℕ) → k < p → getD vs k 0 ≡ getD ws k 0
+  pub between : (k : ℕ) → p + n ≤ k → k < u → getD vs k 0 ≡ getD ws k 0
+  pub above : (k : ℕ) → u + n ≤ k → getD vs k 0 ≡ getD ws k 0
+
+-- vs is ws with the words from a up to b moved up by n places
+pub record Raised (ws : List ℕ) (a b n : ℕ) (vs : List ℕ) : Type 0 where
+  pub size : length vs ≡ length ws
+  pub moved : (k : ℕ) → a ≤ k → k < b → getD vs (k + n) 0 ≡ getD ws k 0
+  pub below : (k : ℕ) → k < a + n → getD vs k 0 ≡ getD ws k 0
+  pub above : (k : ℕ) → b + n ≤ k → getD vs k 0 ≡ getD ws k 0
+
+-- xs begins with the n words of ws from p on
+pub record Saved (ws : List ℕ) (p n : ℕ) (xs : List ℕ) : Type 0 where
+  pub words : (k : ℕ) → k < n → getD xs k 0 ≡ getD ws (p + k) 0
+
+-- vs is ws with the first n words of xs from p on
+pub record PutBack (ws : List ℕ) (p : ℕ) (xs : List ℕ) (n : ℕ) (vs : List ℕ) : Type 0 where
+  pub size : length vs ≡ length ws
+  pub words : (k : ℕ) → k < n → getD vs (p + k) 0 ≡ getD xs k 0
+  pub below : (k : ℕ) → k < p → getD vs k 0 ≡ getD ws k 0
+  pub above : (k : ℕ) → p + n ≤ k → getD vs k 0 ≡ getD ws k 0
 
 -- the words from u up to t brought before those from p up to u
 unfoldable pub settled : ℕ → ℕ → ℕ → List ℕ → List ℕ

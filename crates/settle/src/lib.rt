@@ -1,36 +1,109 @@
 // Words moved within the book: a relation that was written behind the used words goes to its place by key, and free words are set to 0.
 ghost use mathlib.Core.Path.{_≡_};
-ghost use Prim.Native.Nat.{_+_, _-_, _^_, _≤_, _<_};
+ghost use Prim.Native.Nat.{_+_, _-_, _^_, _≤_, _<_, min};
 ghost use lib.ListN.{length, getD};
 ghost use Rattle.rules.specs.Book.{named};
 ghost use Rattle.rules.specs.Steps.{givenBack};
-ghost use Rattle.settle.specs.Settled.{Within, swapped, Mirrored, settled, cleared, headed, lowered, Leaves, Kept};
+ghost use Rattle.settle.specs.Settled.{Within, Exchanged, Raised, Saved, PutBack, settled, cleared, headed, lowered, Leaves, Kept};
 use book::Place;
 
-// Exchanges the words at two places.
-fn swap(book: &mut [u32], one: Place, other: Place)
-    requires { ⌜ (one .0 < length (now book)) × (other .0 < length (now book)) ⌝ }
-    ensures { λ r. ⌜ now (book .exit) ≡ swapped (one .0) (other .0) (now (book .entry)) ⌝ }
+// Exchanges the words from one place on with as many from a later one on.
+fn exchange(book: &mut [u32], one: Place, other: Place, count: usize)
+    requires { ⌜ (one .0 + count ≤ other .0) × (other .0 + count ≤ length (now book)) ⌝ }
+    ensures { λ r. ⌜ Exchanged (now (book .entry)) (one .0) (other .0) count (now (book .exit)) ⌝ }
 {
-    let i = one.0;
-    let j = other.0;
-    let x = book[i];
-    let y = book[j];
-    book[i] = y;
-    book[j] = x;
+    let mut done: usize = 0;
+    while done < count {
+        let i = one.0 + done;
+        let j = other.0 + done;
+        let x = book[i];
+        book[i] = book[j];
+        book[j] = x;
+        done += 1;
+    }
 }
 
-// Turns the words from one place up to, but without, another the other way round.
-fn mirror(book: &mut [u32], from: Place, to: Place)
-    requires { ⌜ Within (from .0) (to .0) (length (now book)) ⌝ }
-    ensures { λ r. ⌜ Mirrored (now (book .entry)) (from .0) (to .0) (now (book .exit)) ⌝ }
+// The lesser of two numbers.
+fn lesser(a: usize, b: usize) -> usize
+    ensures { λ r. ⌜ r ≡ min a b ⌝ }
 {
+    if a < b { a } else { b }
+}
+
+// Brings the words from `from` up to `end` down to `to`, and gives the place after them.
+fn move_down(book: &mut [u32], from: Place, end: Place, to: Place) -> Place
+    requires { ⌜ Within (from .0) (end .0) (length (now book)) × (to .0 ≤ from .0) ⌝ }
+    ensures place { λ r. ⌜ r .0 ≡ to .0 + (end .0 - from .0) ⌝ }
+    ensures words { λ r. ⌜ now (book .exit) ≡ lowered (from .0) (end .0) (to .0) (now (book .entry)) ⌝ }
+{
+    let last = end.0;
     let mut i = from.0;
     let mut j = to.0;
-    while i + 1 < j {
-        j -= 1;
-        swap(book, Place(i), Place(j));
+    while i < last {
+        book[j] = book[i];
         i += 1;
+        j += 1;
+    }
+    Place(j)
+}
+
+// Moves the words from `from` up to `end` up by as many places as `by` says.
+fn move_up(book: &mut [u32], from: Place, end: Place, by: usize)
+    requires { ⌜ (from .0 ≤ end .0) × (end .0 + by ≤ length (now book)) ⌝ }
+    ensures { λ r. ⌜ Raised (now (book .entry)) (from .0) (end .0) by (now (book .exit)) ⌝ }
+{
+    let first = from.0;
+    let mut i = end.0;
+    while first < i {
+        i -= 1;
+        let j = i + by;
+        book[j] = book[i];
+    }
+}
+
+// A copy of at most 64 words from a place on.
+fn saved(book: &[u32], from: Place, count: usize) -> [u32; 64]
+    requires { ⌜ (from .0 + count ≤ length (now book)) × (count ≤ 64) ⌝ }
+    ensures { λ r. ⌜ Saved (now (book .entry)) (from .0) count r ⌝ }
+{
+    let mut words = [0u32; 64];
+    let mut done: usize = 0;
+    while done < count {
+        let i = from.0 + done;
+        words[done] = book[i];
+        done += 1;
+    }
+    words
+}
+
+// Writes the first words of a copy from a place on.
+fn put_back(book: &mut [u32], at: Place, words: [u32; 64], count: usize)
+    requires { ⌜ (at .0 + count ≤ length (now book)) × (count ≤ 64) ⌝ }
+    ensures { λ r. ⌜ PutBack (now (book .entry)) (at .0) words count (now (book .exit)) ⌝ }
+{
+    let mut done: usize = 0;
+    while done < count {
+        let i = at.0 + done;
+        book[i] = words[done];
+        done += 1;
+    }
+}
+
+// Settles where one of the two parts has at most 64 words: it is set aside, the other is moved past it, and it is put back.
+fn settle_few(book: &mut [u32], at: Place, used: Place, end: Place)
+    requires { ⌜ Within (at .0) (used .0) (length (now book)) × (Within (used .0) (end .0) (length (now book)) × (min (used .0 - at .0) (end .0 - used .0) ≤ 64)) ⌝ }
+    ensures { λ r. ⌜ now (book .exit) ≡ settled (at .0) (used .0) (end .0) (now (book .entry)) ⌝ }
+{
+    let before = used.0 - at.0;
+    let behind = end.0 - used.0;
+    if before <= 64 {
+        let words = saved(book, at, before);
+        let to = move_down(book, used, end, at);
+        put_back(book, to, words, before);
+    } else {
+        let words = saved(book, used, behind);
+        move_up(book, at, used, behind);
+        put_back(book, at, words, behind);
     }
 }
 
@@ -39,9 +112,18 @@ pub fn settle(book: &mut [u32], at: Place, used: Place, end: Place)
     requires { ⌜ Within (at .0) (used .0) (length (now book)) × Within (used .0) (end .0) (length (now book)) ⌝ }
     ensures { λ r. ⌜ now (book .exit) ≡ settled (at .0) (used .0) (end .0) (now (book .entry)) ⌝ }
 {
-    mirror(book, at, used);
-    mirror(book, used, end);
-    mirror(book, at, end);
+    let last = end.0;
+    let mut front = at.0;
+    let mut middle = used.0;
+    while 64 < lesser(middle - front, last - middle) {
+        let block = lesser(middle - front, last - middle);
+        exchange(book, Place(front), Place(middle), block);
+        front += block;
+        if front == middle {
+            middle += block;
+        }
+    }
+    settle_few(book, Place(front), Place(middle), end);
 }
 
 // Sets every word from a place on to 0.
@@ -65,23 +147,6 @@ pub fn set_head(book: &mut [u32], mask: u32, edges: u32, faces: u32, used: Place
     book[2] = edges;
     book[3] = faces;
     book[4] = used_words;
-}
-
-// Brings the words from `from` up to `end` down to `to`, and gives the place after them.
-fn move_down(book: &mut [u32], from: Place, end: Place, to: Place) -> Place
-    requires { ⌜ Within (from .0) (end .0) (length (now book)) × (to .0 ≤ from .0) ⌝ }
-    ensures place { λ r. ⌜ r .0 ≡ to .0 + (end .0 - from .0) ⌝ }
-    ensures words { λ r. ⌜ now (book .exit) ≡ lowered (from .0) (end .0) (to .0) (now (book .entry)) ⌝ }
-{
-    let last = end.0;
-    let mut i = from.0;
-    let mut j = to.0;
-    while i < last {
-        book[j] = book[i];
-        i += 1;
-        j += 1;
-    }
-    Place(j)
 }
 
 // Whether a sum of powers of two has 2^k in it.
