@@ -1,7 +1,3 @@
 pub mod Numbers
 pub mod Flags
-pub mod Offsets
-pub mod Listed
-pub mod FrameLeft
-pub mod Needed
 pub mod Determined

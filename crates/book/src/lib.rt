@@ -1,12 +1,4 @@
 // The book: a day's mesh and its relations in lent 32-bit words. What its words say, for every slice of words.
-mod frame;
-mod rows;
-
-pub use frame::Needs;
-pub use frame::frame_right;
-pub use frame::needs_of;
-pub use rows::row;
-pub use rows::rows_right;
 ghost use mathlib.Core.Path.{_≡_};
 ghost use mathlib.Core.List.{map};
 ghost use Prim.Native.Nat.{ℕ, _+_, _≤_};
@@ -71,7 +63,7 @@ pub fn held(book: &[u32], k: u32) -> bool
 }
 
 // The place behind the relation of key k, which stands at `at`.
-pub(crate) fn behind(book: &[u32], k: u32, at: Place) -> Place
+pub fn behind(book: &[u32], k: u32, at: Place) -> Place
     requires { ⌜ (k ≤ 31) × (at .0 ≡ rule.place (now book) k) ⌝ }
     ensures { λ r. ⌜ r .0 ≡ rule.place (now (book .entry)) (k + 1) ⌝ }
 {

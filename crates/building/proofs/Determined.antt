@@ -3,7 +3,7 @@ use mathlib.Core.Path.{_≡_, sym, _∙_}
 use mathlib.Core.List.{List}
 use Prim.Native.Nat.{ℕ, _≤_}
 use native.Mathlib.Omega.{arith}
-use lib.ListN.{length, take, drop}
+use lib.ListN.{length, take}
 use Rattle.rules.specs.Book.{relation}
 use Rattle.rules.specs.Made.{made}
 use Rattle.relations.specs.Words.{Written}

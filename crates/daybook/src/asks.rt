@@ -9,10 +9,10 @@ pub fn ask(book: &mut [u32], d: u32, e: u32) -> Asked
     ensures number { λ r. ⌜ askedNumber r ≡ askNumber (now (book .entry)) d e ⌝ }
     ensures words { λ r. ⌜ now (book .exit) ≡ askWords (now (book .entry)) d e ⌝ }
 {
-    if !book::frame_right(book) {
+    if !frame::frame_right(book) {
         return Asked::FrameBroken;
     }
-    if !book::rows_right(book) {
+    if !rows::rows_right(book) {
         return Asked::RowsBroken;
     }
     let top = book::dim(book);

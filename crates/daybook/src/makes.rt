@@ -13,7 +13,7 @@ fn needs_held(book: &[u32], d: u32, e: u32) -> bool
     requires { ⌜ (d ≤ 3) × ((e ≤ 3) × (dim (now book) ≤ 3)) ⌝ }
     ensures { λ r. ⌜ r ≡ allOf (held (now (book .entry))) (needs (dim (now (book .entry))) d e) ⌝ }
 {
-    let needs = book::needs_of(book::dim(book), d, e);
+    let needs = frame::needs_of(book::dim(book), d, e);
     let keys = needs.keys;
     let n = needs.count;
     let mut i: usize = 0;
@@ -31,10 +31,10 @@ pub fn make(book: &mut [u32], d: u32, e: u32) -> Made
     ensures number { λ r. ⌜ madeNumber r ≡ makeNumber (now (book .entry)) d e ⌝ }
     ensures words { λ r. ⌜ now (book .exit) ≡ makeWords (now (book .entry)) d e ⌝ }
 {
-    if !book::frame_right(book) {
+    if !frame::frame_right(book) {
         return Made::FrameBroken;
     }
-    if !book::rows_right(book) {
+    if !rows::rows_right(book) {
         return Made::RowsBroken;
     }
     let top = book::dim(book);

@@ -129,7 +129,7 @@ fn onward(book: &[u32], k: u32) -> u32
     requires { ⌜ (dim (now book) ≤ 3) × (k < 16) ⌝ }
     ensures { λ r. ⌜ r ≡ onward (dim (now (book .entry))) (held (now (book .entry))) k ⌝ }
 {
-    let needs = book::needs_of(book::dim(book), k / 4, k % 4);
+    let needs = frame::needs_of(book::dim(book), k / 4, k % 4);
     let keys = needs.keys;
     let count = needs.count;
     let mut i: usize = 0;

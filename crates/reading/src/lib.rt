@@ -1,7 +1,7 @@
 // The calls that leave the book as it is: Row, Write, the Euler number and the held count. `daybook` has them beside Load, Make and Ask.
 mod answers;
 mod numbers;
-mod rows;
+mod parts;
 mod writes;
 
 pub use answers::Counted;
@@ -9,6 +9,6 @@ pub use answers::EulerNumber;
 pub use answers::Written;
 pub use numbers::euler;
 pub use numbers::held_count;
-pub use rows::row;
-pub use rows::row_number;
+pub use parts::row;
+pub use parts::row_number;
 pub use writes::write;

@@ -58,10 +58,10 @@ pub fn euler(book: &[u32]) -> EulerNumber
     ensures number { λ r. ⌜ eulerAnswer r ≡ eulerNumber (now (book .entry)) ⌝ }
     ensures value { λ r. ⌜ (eulerAnswer r ≡ 0 → eulerValue r ≡ eulerOf (now (book .entry))) ⌝ }
 {
-    if !book::frame_right(book) {
+    if !frame::frame_right(book) {
         return EulerNumber::FrameBroken;
     }
-    if !book::rows_right(book) {
+    if !rows::rows_right(book) {
         return EulerNumber::RowsBroken;
     }
     if set_missing(book, 1) {
@@ -93,7 +93,7 @@ pub fn held_count(book: &[u32]) -> Counted
     ensures number { λ r. ⌜ countedNumber r ≡ heldNumber (now (book .entry)) ⌝ }
     ensures count { λ r. ⌜ (countedNumber r ≡ 0 → countedRelations r ≡ heldCount (now (book .entry))) ⌝ }
 {
-    if !book::frame_right(book) {
+    if !frame::frame_right(book) {
         return Counted::FrameBroken;
     }
     Counted::Relations(keys_held(book))

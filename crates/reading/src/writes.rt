@@ -27,10 +27,10 @@ pub fn write(book: &[u32], bytes: &mut [u8]) -> Written
     ensures length { λ r. ⌜ (writtenNumber r ≡ 0 → writtenLength r ≡ writeLength (now (book .entry))) ⌝ }
     ensures bytes { λ r. ⌜ now (bytes .exit) ≡ writeBytes (now (book .entry)) (now (bytes .entry)) ⌝ }
 {
-    if !book::frame_right(book) {
+    if !frame::frame_right(book) {
         return Written::FrameBroken;
     }
-    if !book::rows_right(book) {
+    if !rows::rows_right(book) {
         return Written::RowsBroken;
     }
     let n = put_file(book, bytes);

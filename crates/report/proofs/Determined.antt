@@ -1,5 +1,5 @@
 -- What is printed is determined: two outcomes are equal; and where the text fits, it stands whole at the front, with later bytes as they were.
-use mathlib.Core.Path.{_≡_, sym, ap, _∙_}
+use mathlib.Core.Path.{_≡_, sym, _∙_}
 use mathlib.Core.List.{List, _++_}
 use Prim.Native.Nat.{ℕ, _≤_}
 use native.Mathlib.Omega.{arith}

@@ -17,9 +17,9 @@ use Rattle.daybook.proofs.asks.ask.Tie as tie
 use Rattle.daybook.proofs.asks.ask.Reads as reads
 use Rattle.daybook.proofs.asks.ask.Lts as lts
 use Rattle.book.proofs.dim.Reads as dim-reads
-use Rattle.book.proofs.frame_right.Reads as frame-right-reads
+use Rattle.frame.proofs.frame_right.Reads as frame-right-reads
 use Rattle.book.proofs.key.Reads as key-reads
-use Rattle.book.proofs.rows_right.Reads as rows-right-reads
+use Rattle.rows.proofs.rows_right.Reads as rows-right-reads
 use Rattle.making.proofs.ask_for.Reads as ask-for-reads
 
 -- src/asks.rt:12:9

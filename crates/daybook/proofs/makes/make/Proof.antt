@@ -16,10 +16,10 @@ use Rattle.daybook.proofs.makes.make.Tie as tie
 use Rattle.daybook.proofs.makes.make.Reads as reads
 use Rattle.daybook.proofs.makes.make.Lts as lts
 use Rattle.book.proofs.dim.Reads as dim-reads
-use Rattle.book.proofs.frame_right.Reads as frame-right-reads
+use Rattle.frame.proofs.frame_right.Reads as frame-right-reads
 use Rattle.book.proofs.held.Reads as held-reads
 use Rattle.book.proofs.key.Reads as key-reads
-use Rattle.book.proofs.rows_right.Reads as rows-right-reads
+use Rattle.rows.proofs.rows_right.Reads as rows-right-reads
 use Rattle.daybook.proofs.makes.needs_held.Reads as needs-held-reads
 use Rattle.making.proofs.add.Reads as add-reads
 

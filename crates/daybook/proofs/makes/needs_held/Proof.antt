@@ -12,14 +12,14 @@ use Rattle.rules.specs.Book as rule
 use Rattle.rules.specs.Book.{held}
 use Rattle.rules.proofs.Steps.{all-taken-are, all-taken-not}
 use Rattle.rules.proofs.AnyWords.{needs-few}
-use Rattle.book.proofs.Listed.{listed}
+use Rattle.frame.proofs.Listed.{listed}
 use Rattle.rules.proofs.Tests.{broken, unbroken}
 use Rattle.daybook.proofs.makes.needs_held.Statement.{statement}
 use Rattle.daybook.proofs.makes.needs_held.Tie as tie
 use Rattle.daybook.proofs.makes.needs_held.Reads as reads
 use Rattle.daybook.proofs.makes.needs_held.Lts as lts
 use Rattle.book.proofs.dim.Reads as dim-reads
-use Rattle.book.proofs.needs_of.Reads as needs-of-reads
+use Rattle.frame.proofs.needs_of.Reads as needs-of-reads
 use Rattle.book.proofs.held.Reads as held-reads
 
 abbrev Inv-loop : tie.InvT-loop

@@ -8,8 +8,8 @@ use Rattle.reading.proofs.writes.write.Statement.{statement}
 use Rattle.reading.proofs.writes.write.Tie as tie
 use Rattle.reading.proofs.writes.write.Reads as reads
 use Rattle.reading.proofs.writes.write.Lts as lts
-use Rattle.book.proofs.frame_right.Reads as frame-right-reads
-use Rattle.book.proofs.rows_right.Reads as rows-right-reads
+use Rattle.frame.proofs.frame_right.Reads as frame-right-reads
+use Rattle.rows.proofs.rows_right.Reads as rows-right-reads
 use Rattle.reading.proofs.writes.put_file.Reads as put-file-reads
 
 -- src/writes.rt:30:9

@@ -1,0 +1,4 @@
+pub mod Listed
+pub mod FrameLeft
+pub mod Needed
+pub mod Determined

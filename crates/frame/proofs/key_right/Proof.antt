@@ -1,0 +1,36 @@
+-- The three parts of a right key, one after another.
+use Prim.Native.Nat.{_/_, _%_}
+use native.Mathlib.Omega.{arith}
+use borrow.Author.Needs.{needs}
+use borrow.Author.Tests.{le-leb, lt-leb}
+use Rattle.rules.specs.Book.{dim, keyRight}
+use Rattle.frame.proofs.key_right.Statement.{statement}
+use Rattle.frame.proofs.key_right.Tie as tie
+
+dim-requires : tie.Need-dim-requires
+dim-requires c κs = search needs
+
+returns : tie.Need-returns
+unfolding keyRight
+returns c =
+    let a = c .before .before .before .args in
+    rw (lt-leb (a .k / 4) (dim (a .book .now)) (omega arith))
+
+returns-2 : tie.Need-returns-2
+unfolding keyRight
+returns-2 c =
+    let a = c .before .before .before .before .args in
+    rw (le-leb (a .k / 4) (dim (a .book .now)) (omega arith), lt-leb (a .k % 4) (dim (a .book .now)) (omega arith))
+
+made-from-held-requires : tie.Need-made-from-held-requires
+made-from-held-requires c κs = search needs
+
+returns-3 : tie.Need-returns-3
+unfolding keyRight
+returns-3 c =
+    let a = c .before .before .before .before .before .args in
+    rw (le-leb (a .k / 4) (dim (a .book .now)) (omega arith), le-leb (a .k % 4) (dim (a .book .now)) (omega arith)) (c .made-from-held .ensures)
+
+pub key-right-spec : {M : Type 1} → statement M
+key-right-spec =
+    tie.close (tie.spec dim-requires returns returns-2 made-from-held-requires returns-3)

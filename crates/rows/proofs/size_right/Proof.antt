@@ -1,0 +1,29 @@
+-- The definition's tests.
+use native.Mathlib.Omega.{arith}
+use borrow.Author.Needs.{needs}
+use borrow.Author.Tests.{eq-eqb, ne-eqb, lt-ltb, le-ltb}
+use Prim.Native.Nat.{_%_}
+use Rattle.rows.proofs.size_right.Statement.{statement}
+use Rattle.rows.proofs.size_right.Tie as tie
+
+returns : tie.Need-returns
+returns c = rw (ne-eqb (c .before .args .k % 4) 0 (c .if1 .taken))
+
+returns-2 : tie.Need-returns-2
+returns-2 c =
+    let k = c .before .before .args .k in
+    rw (eq-eqb (k % 4) 0 (omega arith), le-ltb 0 k (omega arith))
+
+add-result : tie.Need-add-result
+add-result c = search needs
+
+cast-result : tie.Need-cast-result
+cast-result c = search needs
+
+returns-3 : tie.Need-returns-3
+returns-3 c =
+    let k = c .before .before .args .k in
+    rw (eq-eqb (k % 4) 0 (omega arith), lt-ltb 0 k (omega arith))
+
+pub size-right-spec : {M : Type 1} → statement M
+size-right-spec = tie.close (tie.spec returns returns-2 add-result cast-result returns-3)
