@@ -1,3 +1,2 @@
-pub mod Loading
 pub mod Alike
 pub mod MakeCases

@@ -1,20 +1,4 @@
-// What Load, Make and Ask answer: accepted, with what the paper gives, or one of its refusals.
-use dayfile::Cell;
-
-// Load's answer.
-pub enum Loaded {
-    Accepted,
-    FileTooShort,
-    NoDimension,
-    ManyVertices,
-    ManyCells,
-    SpareBits,
-    FileLength,
-    VertexOut(Cell),
-    VertexTwice(Cell),
-    BitsAfter,
-    NoRoom,
-}
+// What Make and Ask answer: accepted, or one of their refusals.
 
 // Make's answer.
 pub enum Made {

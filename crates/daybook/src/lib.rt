@@ -34,14 +34,13 @@
 // | 18  | the byte buffer is shorter than the file                    | write                   |
 mod answers;
 mod asks;
-mod loads;
 mod makes;
 
 pub use answers::Asked;
-pub use answers::Loaded;
 pub use answers::Made;
 pub use asks::ask;
-pub use loads::load;
+pub use loading::Loaded;
+pub use loading::load;
 pub use makes::make;
 pub use reading::Counted;
 pub use reading::EulerNumber;

@@ -1,2 +1,4 @@
 pub mod Sizes
 pub mod Whole
+pub mod Loading
+pub mod Alike

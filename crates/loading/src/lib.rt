@@ -1,4 +1,9 @@
-// The words of a loaded mesh: where they end, and a book filled with them.
+// Load; and the words of a loaded mesh: where they end, and a book filled with them.
+mod answers;
+mod call;
+
+pub use answers::Loaded;
+pub use call::load;
 ghost use mathlib.Core.Path.{_≡_};
 ghost use Prim.Native.Nat.{_+_, _*_, _≤_, _<_};
 ghost use lib.ListN.{length};

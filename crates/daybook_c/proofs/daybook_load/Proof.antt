@@ -1,13 +1,13 @@
 -- Each answer has its number; with 7 and 8 the cell.
 use mathlib.Core.Path.{_≡_, refl, sym, ap, _∙_}
-use Rattle.daybook.specs.Answers.{loadedNumber, loadedCell}
+use Rattle.loading.specs.Answers.{loadedNumber, loadedCell}
 use Rattle.daybook_c.proofs.Given.{cell-out, cell-twice}
 use borrow.Author.Needs.{needs}
 use Rattle.daybook_c.proofs.daybook_load.Statement.{statement}
 use Rattle.daybook_c.proofs.daybook_load.Tie as tie
 use Rattle.daybook_c.proofs.daybook_load.Reads as reads
 use Rattle.daybook_c.proofs.daybook_load.Lts as lts
-use Rattle.daybook.proofs.load.Reads as load-reads
+use Rattle.loading.proofs.load.Reads as load-reads
 
 -- src/lib.rt:22:11
 load-requires : tie.Need-load-requires

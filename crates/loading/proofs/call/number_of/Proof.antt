@@ -2,10 +2,10 @@
 use mathlib.Core.Path.{sym, ap}
 use Rattle.dayfile.specs.Faults.{faultNumber}
 use borrow.Author.Needs.{needs}
-use Rattle.daybook.proofs.loads.number_of.Statement.{statement}
-use Rattle.daybook.proofs.loads.number_of.Tie as tie
-use Rattle.daybook.proofs.loads.number_of.Reads as reads
-use Rattle.daybook.proofs.loads.number_of.Lts as lts
+use Rattle.loading.proofs.call.number_of.Statement.{statement}
+use Rattle.loading.proofs.call.number_of.Tie as tie
+use Rattle.loading.proofs.call.number_of.Reads as reads
+use Rattle.loading.proofs.call.number_of.Lts as lts
 
 -- src/loads.rt:14:24
 enum-told : tie.Need-enum-told

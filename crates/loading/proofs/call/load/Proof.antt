@@ -4,19 +4,19 @@ use Prim.Native.Nat.{_≤_, _<_}
 use native.Mathlib.Omega.{arith}
 use lib.ListN.{length}
 use Rattle.rules.specs.Calls.{loaded}
-use Rattle.daybook.specs.Answers.{loadedNumber, loadedCell}
-use Rattle.daybook.proofs.Loading.{Gives, faulty, crowded, accepted, words-needed}
+use Rattle.loading.specs.Answers.{loadedNumber, loadedCell}
+use Rattle.loading.proofs.Loading.{Gives, faulty, crowded, accepted, words-needed}
 use borrow.Author.Needs.{needs}
-use Rattle.daybook.proofs.loads.load.Statement.{statement}
-use Rattle.daybook.proofs.loads.load.Tie as tie
-use Rattle.daybook.proofs.loads.load.Reads as reads
-use Rattle.daybook.proofs.loads.load.Lts as lts
-use Rattle.daybook.proofs.loads.number_of.Reads as number-of-reads
-use Rattle.daybook.proofs.loads.refused.Reads as refused-reads
+use Rattle.loading.proofs.call.load.Statement.{statement}
+use Rattle.loading.proofs.call.load.Tie as tie
+use Rattle.loading.proofs.call.load.Reads as reads
+use Rattle.loading.proofs.call.load.Lts as lts
+use Rattle.loading.proofs.call.number_of.Reads as number-of-reads
+use Rattle.loading.proofs.call.refused.Reads as refused-reads
 use Rattle.dayfile.proofs.fault.Reads as fault-reads
 use Rattle.dayfile.proofs.header.Reads as header-reads
 use Rattle.loading.proofs.fill.Reads as fill-reads
 use Rattle.loading.proofs.end_of.Reads as end-of-reads
 
 fault-requires : tie.Need-fault-requires
 fault-requires c κs = search needs

@@ -1,10 +1,12 @@
 // Load: a day file's mesh becomes the book.
 use crate::answers::Loaded;
+use crate::end_of;
+use crate::fill;
 use dayfile::Fault;
 ghost use mathlib.Core.Path.{_≡_};
 ghost use Rattle.rules.specs.Calls.{loadNumber, loadCell, loadWords};
 ghost use Rattle.dayfile.specs.Faults.{faultNumber, cellNumber};
-ghost use Rattle.daybook.specs.Answers.{loadedNumber, loadedCell};
+ghost use Rattle.loading.specs.Answers.{loadedNumber, loadedCell};
 
 // The number of a file's fault, 0 for none.
 fn number_of(f: Fault) -> u32
@@ -53,10 +55,10 @@ pub fn load(file: &[u8], book: &mut [u32]) -> Loaded
         return refused(fault);
     }
     let head = dayfile::header(file);
-    let end = loading::end_of(head);
+    let end = end_of(head);
     if book.len() < end.0 {
         return Loaded::NoRoom;
     }
-    loading::fill(file, book);
+    fill(file, book);
     Loaded::Accepted
 }

@@ -1,12 +1,12 @@
 -- Each fault has one answer, with its number and its cell.
 use mathlib.Core.Path.{sym, ap}
 use Rattle.dayfile.specs.Faults.{faultNumber, cellNumber}
-use Rattle.daybook.specs.Answers.{loadedNumber, loadedCell}
+use Rattle.loading.specs.Answers.{loadedNumber, loadedCell}
 use borrow.Author.Needs.{needs}
-use Rattle.daybook.proofs.loads.refused.Statement.{statement}
-use Rattle.daybook.proofs.loads.refused.Tie as tie
-use Rattle.daybook.proofs.loads.refused.Reads as reads
-use Rattle.daybook.proofs.loads.refused.Lts as lts
+use Rattle.loading.proofs.call.refused.Statement.{statement}
+use Rattle.loading.proofs.call.refused.Tie as tie
+use Rattle.loading.proofs.call.refused.Reads as reads
+use Rattle.loading.proofs.call.refused.Lts as lts
 
 -- src/loads.rt:22:24
 enum-told : tie.Need-enum-told
