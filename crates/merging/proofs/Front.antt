@@ -1,4 +1,4 @@
--- The rows of d→d and d→e, and what they ask, are read alike from two books that agree before dst.
+-- The rows of d→d, and what a merge asks of its sources, are read alike from two books that agree before dst.
 use mathlib.Core.Path.{_≡_, refl, ap}
 use mathlib.Core.Bool.{Bool, true, not, _&&_, _||_}
 use mathlib.Core.List.{List, [], _∷_}
