@@ -177,34 +177,54 @@ static void compare_files(const Named &m) {
     must(ours == theirs && length == ours.size(), "the two programs write different files");
 }
 
-// Rows of D->D-1, a million times, in a book of so many words; the time of one.
-static void compare_rows(const Named &m, size_t words) {
+// A call on a book of so many words that holds all relations, a million times; the time of one. Each program gives a number for the k-th, and their sums agree.
+template <class Ours, class Theirs> void compare_calls(const Named &m, const std::string &what, size_t words, Ours ours, Theirs theirs) {
     const uint32_t calls = 1000000;
-    auto book = book_with(m, relations(m), words);
+    const auto book = book_with(m, relations(m), words);
     plain::Book plainly = loaded(m);
     for (auto r : relations(m)) must(plain::ask(plainly, r.first, r.second), "plain ask");
-    uint32_t cells = uint32_t(m.cells.size());
     uint64_t met = 0, met_plainly = 0;
     auto nothing = [] { return 0; };
-    double ours = best(nothing, [&](int) {
+    double one = best(nothing, [&](int) {
         met = 0;
-        for (uint32_t k = 0; k < calls; k++) {
-            size_t start = 0, count = 0;
-            must(daybook_row(book.data(), words, m.dim, m.dim - 1, k % cells, &start, &count) == 0, "row");
-            met += book[start] + count;
-        }
+        for (uint32_t k = 0; k < calls; k++) met += ours(book, k);
     }, 3);
-    double theirs = best(nothing, [&](int) {
+    double other = best(nothing, [&](int) {
         met_plainly = 0;
-        for (uint32_t k = 0; k < calls; k++) {
-            size_t count = 0;
-            const uint32_t *row = plain::row(plainly, m.dim, m.dim - 1, k % cells, count);
-            must(row != nullptr, "plain row");
-            met_plainly += *row + count;
-        }
+        for (uint32_t k = 0; k < calls; k++) met_plainly += theirs(plainly, k);
     }, 3);
-    must(met == met_plainly, "the two programs give different rows");
-    line(m, "row", words, ours / calls, theirs / calls);
+    must(met == met_plainly, "the two programs give different answers");
+    line(m, what, words, one / calls, other / calls);
+}
+
+// Rows of 3->2, and searches in them for the last face, so that all four indices of a row are read.
+static void compare_rows(const Named &m, size_t words) {
+    const uint32_t cells = uint32_t(m.cells.size());
+    compare_calls(m, "row", words,
+        [&](const std::vector<uint32_t> &book, uint32_t k) {
+            size_t start = 0, count = 0;
+            must(daybook_row(book.data(), words, 3, 2, k % cells, &start, &count) == 0, "row");
+            return book[start] + count;
+        },
+        [&](const plain::Book &book, uint32_t k) {
+            size_t count = 0;
+            const uint32_t *row = plain::row(book, 3, 2, k % cells, count);
+            must(row != nullptr, "plain row");
+            return *row + count;
+        });
+    compare_calls(m, "find", words,
+        [&](const std::vector<uint32_t> &book, uint32_t k) {
+            uint32_t yes = 0;
+            size_t read = 0;
+            must(daybook_find(book.data(), words, 3, 2, k % cells, book[3] - 1, &yes, &read) == 0, "find");
+            return yes + read;
+        },
+        [&](const plain::Book &book, uint32_t k) {
+            bool yes = false;
+            size_t read = 0;
+            must(plain::find(book, 3, 2, k % cells, book.counts[2] - 1, yes, read), "plain find");
+            return yes + read;
+        });
 }
 
 // What a book takes for each cell: D->0 alone, all relations, and the paper's 4 (D + 2) bytes.
@@ -228,7 +248,7 @@ int main() {
     for (unsigned n : {256, 1024, 4096}) compare(scattered(n, 2 * n), "all", {}, relations(scattered(n, 2 * n)), 0, 5);
     // what a lent word costs that no relation needs
     for (size_t spare : {0, 1 << 18, 1 << 20}) compare(sheet(45), "0->2", {}, {{0, 2}}, spare, 5);
-    // a row's cost does not depend on the book
+    // what a row or a search in one costs does not depend on the book
     compare_rows({"1 cell", 3, 4, {{0, 1, 2, 3}}, true}, 1000);
     compare_rows(box(8, 8, 7), 1000000);
     std::printf("\n%-12s %8s %8s %8s\n", "mesh", "D->0", "all", "paper");

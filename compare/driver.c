@@ -5,7 +5,7 @@
  *   'B' n, n words          the book from now on
  *   'L' n, n bytes          load that file
  *   'M' d e, 'A' d e        make, ask
- *   'R' d e i               row
+ *   'R' d e i, 'F' d e i j  row, find
  *   'T' d e                 every row of d→e until one is refused; behind the answer, for each row, its length and its words
  *   'W' n, n bytes          write to a buffer with these bytes
  *   'E', 'H'                Euler number, held count
@@ -106,6 +106,15 @@ int main(void) {
             d = number(), e = number(), i = number();
             given = daybook_row(words, n, d, e, i, &start, &count);
             memcpy(out, &start, sizeof start), memcpy(out + 1, &count, sizeof count);
+            break;
+        }
+        case 'F': {
+            uint32_t j;
+            size_t read;
+            memcpy(&read, out + 1, sizeof read);
+            d = number(), e = number(), i = number(), j = number();
+            given = daybook_find(words, n, d, e, i, j, (uint32_t *)out, &read);
+            memcpy(out + 1, &read, sizeof read);
             break;
         }
         case 'T': {

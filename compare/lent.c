@@ -1,16 +1,20 @@
 /* Runs of the C interface that need C: the sizes that the header promises are enough, the stack that each call
- * needs, measured by painting it, and calls on different books side by side in threads.
+ * needs, measured by painting it, what a search reads of a row, and calls on different books side by side in threads.
  *
  * Prints what it measured, and ends with 1 at the first thing that is not as the header says.
  */
 #define _GNU_SOURCE
 #include "daybook.h"
 #include <pthread.h>
+#include <setjmp.h>
+#include <signal.h>
 #include <stdio.h>
 #include <stdlib.h>
 #include <string.h>
+#include <sys/mman.h>
+#include <unistd.h>
 
-enum { STACK = 1 << 20, PROMISED = 512 << 10, LITTLE = 16 << 10, THREADS = 8, ROUNDS = 6 };
+enum { STACK = 1 << 20, PROMISED = 512 << 10, LITTLE = 16 << 10, THREADS = 8, ROUNDS = 6, CALLS = 8 };
 
 static void fail(const char *what) {
     printf("not as the header says: %s\n", what);
@@ -152,7 +156,7 @@ struct call {
 
 static void *make_call(void *place) {
     struct call *c = place;
-    uint32_t cell = 0, count = 0;
+    uint32_t cell = 0, count = 0, yes = 0;
     size_t start = 0, length = 0;
     int64_t euler = 0;
     static uint8_t bytes[32768];
@@ -164,6 +168,7 @@ static void *make_call(void *place) {
     case 4: c->number = daybook_write(c->book, c->words, bytes, sizeof bytes, &length); break;
     case 5: c->number = daybook_euler(c->book, c->words, &euler); break;
     case 6: c->number = daybook_held_count(c->book, c->words, &count); break;
+    case 7: c->number = daybook_find(c->book, c->words, c->d, c->e, 0, 0, &yes, &length); break;
     default: break;
     }
     return NULL;
@@ -184,14 +189,14 @@ static size_t painted(struct call *c) {
     return sizeof stack - clean;
 }
 
-static size_t most[8];
+static size_t most[CALLS];
 
 static void measure(struct mesh m) {
     size_t words = 1500000;
-    struct call c = {7, 0, 0, calloc(words, 4), words, file_of(m, file), 0};
+    struct call c = {CALLS, 0, 0, calloc(words, 4), words, file_of(m, file), 0};
     if (!c.book) exit(3);
     size_t bare = painted(&c);
-    for (c.which = 0; c.which < 7; c.which++)
+    for (c.which = 0; c.which < CALLS; c.which++)
         for (c.d = 0; c.d <= m.dim; c.d++)
             for (c.e = 0; c.e <= m.dim; c.e++) {
                 /* make is measured on a book that holds nothing but D -> 0 yet */
@@ -205,6 +210,51 @@ static void measure(struct mesh m) {
                         for (unsigned e = 0; e <= m.dim; e++) daybook_ask(c.book, c.words, d, e);
             }
     free(c.book);
+    free(m.corners);
+}
+
+/* ---- what a search reads */
+
+static sigjmp_buf met;
+
+static void on_fault(int number) {
+    siglongjmp(met, number);
+}
+
+/* Whether a search for j in row i of 0 -> 1 touches memory that may not be read; where it does not, it says yes after so many indices. */
+static int touches(const uint32_t *book, size_t words, uint32_t i, uint32_t j, size_t indices) {
+    uint32_t yes = 7;
+    size_t read = 7;
+    if (sigsetjmp(met, 1)) return 1;
+    if (daybook_find(book, words, 0, 1, i, j, &yes, &read) || yes != 1 || read != indices) fail("a search in a long row");
+    return 0;
+}
+
+/* Vertex 4096 is in all 4,096 intervals, so its row of 0 -> 1 is 0 1 2 .. 4095, which has whole pages inside. One of them may not be
+ * read: a search for the last index before it is answered, and one for its first index is stopped by it. */
+static void reads_no_further(void) {
+    size_t page = (size_t)sysconf(_SC_PAGESIZE), words = 65536, start = 0, count = 0;
+    uint32_t cell, hub = 4096, *book = mmap(NULL, words * 4, PROT_READ | PROT_WRITE, MAP_PRIVATE | MAP_ANONYMOUS, -1, 0);
+    struct mesh m = empty(1, hub + 1, hub);
+    struct sigaction on = {0};
+    for (unsigned k = 0; k < hub; k++) add(&m, k, hub, 0, 0);
+    if (book == MAP_FAILED) exit(3);
+    if (daybook_load(file, file_of(m, file), book, words, &cell) || daybook_ask(book, words, 0, 1)) fail("a star of intervals");
+    if (daybook_row(book, words, 0, 1, hub, &start, &count) || count != hub) fail("the row of the middle");
+    size_t first = (start * 4 + page - 1) / page * page / 4;
+    if (first + page / 4 > start + count) {
+        printf("not run: a page of %lu bytes is longer than the row\n", (unsigned long)page);
+        return;
+    }
+    uint32_t j = (uint32_t)(first - start);
+    on.sa_handler = on_fault;
+    sigaction(SIGSEGV, &on, NULL);
+    if (mprotect(book + first, page, PROT_NONE)) exit(3);
+    if (j == 0 || touches(book, words, hub, j - 1, j)) fail("no index is read that is not counted");
+    if (!touches(book, words, hub, j, j + 1)) fail("a page that may not be read");
+    signal(SIGSEGV, SIG_DFL);
+    printf("a search for index %lu of a row of %lu reads none behind it\n", (unsigned long)(j - 1), (unsigned long)count);
+    munmap(book, words * 4);
     free(m.corners);
 }
 
@@ -253,7 +303,7 @@ static void side_by_side(void) {
 
 int main(void) {
     setvbuf(stdout, NULL, _IOLBF, 0);
-    static const char *names[] = {"load", "ask", "make", "row", "write", "euler", "held_count"};
+    static const char *names[] = {"load", "ask", "make", "row", "write", "euler", "held_count", "find"};
     enough("a sheet of 3,698 triangles", sheet(44));
     enough("two stacked scans of 4,056 tetrahedra", stacked(27));
     enough("a chain of 4,096 intervals", chain(4096));
@@ -268,10 +318,11 @@ int main(void) {
     measure(stacked(27));
     measure(random_cells(3, 8192, 4096));
     measure(chain(100));
-    for (int k = 0; k < 7; k++) {
+    for (int k = 0; k < CALLS; k++) {
         printf("%s: %lu bytes of stack\n", names[k], (unsigned long)most[k]);
         if (most[k] > (k == 1 || k == 2 ? PROMISED : LITTLE)) fail("the stack that a call needs");
     }
+    reads_no_further();
     side_by_side();
     return 0;
 }

@@ -1,6 +1,6 @@
-"""A separate reading of document 01: every call of the library, on plain Python lists.
+"""A separate reading of documents 01 and 02: every call of the library, on plain Python lists.
 
-Written from the paper alone. It shares no definition with crates/ and takes the plain way
+Written from the papers alone. It shares no definition with crates/ and takes the plain way
 where the library takes the quick one, so that a mistake has to be made twice to go unseen.
 A file is a bytes object, a book a list of numbers below 2^32 that the calls change in place.
 """
@@ -288,6 +288,20 @@ def row(book, d, e, i):
     if not first <= second <= total:
         return 11, 0, 0
     return 0, frame.places[d, e] + frame.counts[d] + 1 + first, second - first
+
+
+def find(book, d, e, i, j):
+    """(number, yes, indices read), the last two no and 0 on a refusal"""
+    number, start, count = row(book, d, e, i)
+    if number:
+        return number, False, 0
+    if j >= Frame.of(book).counts[e]:
+        return 19, False, 0
+    indices = book[start:start + count]
+    not_below = [place for place, index in enumerate(indices) if not index < j]
+    leading = not_below[0] if not_below else count
+    other = indices[leading:leading + 1]
+    return 0, other == [j], leading + len(other)
 
 
 def write(book, out):

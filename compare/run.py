@@ -85,6 +85,7 @@ class Runs:
     def __init__(self, seed, library, calls):
         self.rng, self.library, self.left = random.Random(seed), library, calls
         self.table, self.book, self.past, self.made, self.sequences = {}, [], [], 0, 0
+        self.sum = None  # the book's checksum, where it is known: it is taken anew after a call that writes
 
     def fail(self, what, got, wanted):
         print("DISAGREE: %s: the library says %s, the reference %s" % (what, got, wanted))
@@ -92,12 +93,14 @@ class Runs:
         raise SystemExit(1)
 
     def use(self, book):
-        self.book = list(book)
+        self.book, self.sum = list(book), None
         self.library.call(b"B" + struct.pack("<I%dI" % len(book), len(book), *book))
 
     def check(self, name, text, number, first, second, data=b"", what=""):
         got = self.library.call(text)
-        wanted = (number, first, second, checksum(self.book), zlib.crc32(data), 1)
+        if self.sum is None:
+            self.sum = checksum(self.book)
+        wanted = (number, first, second, self.sum, zlib.crc32(data), 1)
         if got != wanted:
             self.fail("%s %s" % (name, what), got, wanted)
         row = self.table.setdefault(name, {})
@@ -106,14 +109,14 @@ class Runs:
         self.made += 1
 
     def load(self, data):
-        self.past = list(self.book)
+        self.past, self.sum = list(self.book), None
         number, cell = rules.load(data, self.book)
         first = OUT if cell is None else OUT & LOW | cell
         self.check("load", b"L" + struct.pack("<I", len(data)) + data, number, first, OUT, data, data[:64].hex())
         return number
 
     def relation(self, name, d, e):
-        self.past = list(self.book)
+        self.past, self.sum = list(self.book), None
         call = {"make": rules.make, "ask": rules.ask}[name]
         number = call(self.book, d, e)
         self.check(name, (b"M" if name == "make" else b"A") + struct.pack("<II", d, e), number, OUT, OUT, what=(d, e))
@@ -124,6 +127,13 @@ class Runs:
         number, start, count = rules.row(self.book, d, e, i)
         first, second = (OUT, OUT) if number else (start, count)
         self.check("row", b"R" + struct.pack("<III", d, e, i), number, first, second, what=(d, e, i))
+
+    def find(self, d, e, i, j):
+        self.past = self.book
+        number, yes, read = rules.find(self.book, d, e, i, j)
+        first, second = (OUT, OUT) if number else (OUT & LOW | yes, read)
+        self.check("find", b"F" + struct.pack("<IIII", d, e, i, j), number, first, second, what=(d, e, i, j))
+        return number, yes, read
 
     def write(self, size):
         self.past = self.book
@@ -145,21 +155,40 @@ class Runs:
     def dimension(self):
         return self.rng.choice((0, 0, 1, 1, 2, 2, 3, 3, 4, 0xFFFFFFFF)) if self.rng.random() < 0.2 else self.rng.randrange(4)
 
+    def number(self):
+        """Any number of an entity."""
+        return self.rng.choice((self.rng.randrange(4), self.rng.randrange(20), 8191, 0xFFFFFFFF))
+
+    def place(self):
+        """A row to look at, mostly one that is held, and its relation's N_e, or None."""
+        rng, frame = self.rng, rules.Frame.of(self.book)
+        if not frame or rng.random() < 0.3:
+            return self.dimension(), self.dimension(), self.number(), None
+        d, e = rng.choice(sorted(frame.held))
+        i = rng.randrange(frame.counts[d]) if frame.counts[d] and rng.random() < 0.8 else self.number()
+        return d, e, i, frame.counts[e]
+
+    def search(self):
+        """A search for an index, mostly for one that is in the row or beside one that is, or for N_e or the one before it."""
+        rng = self.rng
+        d, e, i, bound = self.place()
+        number, start, count = rules.row(self.book, d, e, i)
+        near = self.book[start:start + count] + ([bound, bound - 1] if bound else [])
+        j = rng.choice(near) + rng.choice((0, 0, 1, -1)) if near and rng.random() < 0.8 else self.number()
+        self.find(d, e, i, j & 0xFFFFFFFF)
+
     def look(self):
         """One call that only reads."""
         rng = self.rng
-        way = rng.randrange(8)
+        way = rng.randrange(11)
         if way < 4:
-            d, e, i = self.dimension(), self.dimension(), rng.choice((rng.randrange(4), rng.randrange(20), 8191, 0xFFFFFFFF))
-            frame = rules.Frame.of(self.book)
-            if frame and rng.random() < 0.7:
-                d, e = rng.choice(sorted(frame.held))
-                if frame.counts[d] and rng.random() < 0.8:
-                    i = rng.randrange(frame.counts[d])
-            self.row(d, e, i)
-        elif way < 6:
+            self.row(*self.place()[:3])
+        elif way < 7:
+            for _ in range(4):
+                self.search()
+        elif way < 9:
             self.write(rng.choice((0, 3, 4, rng.randrange(64), 200)))
-        elif way == 6:
+        elif way == 9:
             self.euler()
         else:
             self.held_count()
@@ -221,6 +250,8 @@ class Runs:
                         self.relation("ask", d, e)
                     self.row(d, e, 0)
                     self.row(d, e, mesh[1] - 1)
+                    for j in (0, 1, 2047, 4095, 8191, mesh[1], 0xFFFFFFFF):
+                        self.find(d, e, 0, j)
             self.euler()
             self.held_count()
         many = bytearray(rules.file_bytes(*whole))
@@ -244,7 +275,7 @@ class Runs:
             out.append(self.book[start : start + count])
 
     def examples(self):
-        """Examples 10 and 11 of the paper, whose numbers stand here as the paper gives them."""
+        """Examples by hand, whose numbers stand here as they were worked out: 10 and 11 of the paper, and searches."""
         t = rules.file_bytes(2, 4, [[0, 1, 3], [1, 2, 3]])
         for room, number in ((54, 0), (53, 13)):
             self.use([7] * room)
@@ -261,6 +292,26 @@ class Runs:
         self.demand("edges", self.rows_of(1, 0), [[0, 1], [0, 2], [0, 3], [1, 2], [1, 3], [2, 3]])
         self.euler()
         self.demand("Euler number", rules.euler(self.book), (0, 1))
+        self.searches(t)
+
+    def searches(self, t):
+        """Row 1 of 0→1 of T is 0 2 3, searched; each refusal; and the row with its words changed, so that it does not ascend."""
+        self.use([7] * 60)
+        self.load(t)
+        self.demand("0→1", self.relation("ask", 0, 1), 0)
+        for j, wanted in ((0, (0, True, 1)), (1, (0, False, 2)), (3, (0, True, 3)), (4, (0, False, 3)), (5, (19, False, 0))):
+            self.demand("search for %d" % j, self.find(0, 1, 1, j), wanted)
+        for d, e, i, number in ((0, 3, 1, 12), (1, 1, 9, 16), (0, 1, 4, 17)):
+            self.demand("search refused with %d" % number, self.find(d, e, i, 5), (number, False, 0))
+        start = rules.row(self.book, 0, 1, 1)[1]
+        right = list(self.book)
+        self.use(right[:start] + [3, 2, 0] + right[start + 3:])
+        for j, wanted in ((0, (0, False, 1)), (2, (0, False, 1)), (3, (0, True, 1)), (4, (0, False, 3))):
+            self.demand("search for %d in 3 2 0" % j, self.find(0, 1, 1, j), wanted)
+        self.use(right[:7] + [1] + right[8:])
+        self.demand("search between offsets that fall", self.find(0, 1, 1, 5), (11, False, 0))
+        self.use([0] + right[1:])
+        self.demand("search in a broken frame", self.find(9, 9, 9, 9), (10, False, 0))
 
     def run(self, full):
         self.examples()

@@ -68,7 +68,8 @@ enum {
     DAYBOOK_NEED_MISSING = 15,     /* something that is needed is not held */
     DAYBOOK_NOT_HELD = 16,         /* the relation is not held */
     DAYBOOK_NO_SUCH_ENTITY = 17,   /* i is N_d or more */
-    DAYBOOK_BUFFER_TOO_SHORT = 18  /* the byte buffer is shorter than the file */
+    DAYBOOK_BUFFER_TOO_SHORT = 18, /* the byte buffer is shorter than the file */
+    DAYBOOK_NO_SUCH_INDEX = 19     /* j is N_e or more */
 };
 
 /* A number of 32-bit words, as a uint64_t, that is enough for a mesh of dimension D (1, 2 or 3) with
@@ -108,10 +109,18 @@ uint32_t daybook_make(uint32_t *book, size_t book_len, uint32_t d, uint32_t e);
  * all. A relation that is held already is accepted, and no word changes. Refusals: 10, 11, 12, 13. */
 uint32_t daybook_ask(uint32_t *book, size_t book_len, uint32_t d, uint32_t e);
 
-/* Finds row i of d -> e: where accepted it is book[*start .. *start + *count], which may be empty.
+/* Row i of d -> e: where accepted it is book[*start .. *start + *count], which may be empty.
  * Refusals: 10, 12, 16, 17, and 11 where the row's own two offsets are not first <= second <= last.
  * The cost does not depend on the book's size. */
 uint32_t daybook_row(const uint32_t *book, size_t book_len, uint32_t d, uint32_t e, uint32_t i, size_t *start, size_t *count);
+
+/* Whether j is in row i of d -> e: where accepted, *yes is 1 or 0 and *read how many of the row's indices
+ * were read. The row is searched from its front, up to the first index that is not below j: *read counts
+ * the leading ones, those below j, and the one after them, if there is one; yes means that this one is j.
+ * In a row that ascends that is what reading the whole row would say.
+ * Refusals: as daybook_row (10, 12, 16, 17, 11), then 19 where j is N_e or more.
+ * The cost does not depend on the book's size, but for the indices read. */
+uint32_t daybook_find(const uint32_t *book, size_t book_len, uint32_t d, uint32_t e, uint32_t i, uint32_t j, uint32_t *yes, size_t *read);
 
 /* Writes the day file of the book's mesh, each cell's vertices ascending, and its length to
  * *length where accepted. Later bytes stay as they were. Refusals: 10, 11, 18. */

@@ -20,6 +20,7 @@ mod c {
         pub fn daybook_make(book: *mut u32, book_len: usize, d: u32, e: u32) -> u32;
         pub fn daybook_ask(book: *mut u32, book_len: usize, d: u32, e: u32) -> u32;
         pub fn daybook_row(book: *const u32, book_len: usize, d: u32, e: u32, i: u32, start: *mut usize, count: *mut usize) -> u32;
+        pub fn daybook_find(book: *const u32, book_len: usize, d: u32, e: u32, i: u32, j: u32, yes: *mut u32, read: *mut usize) -> u32;
         pub fn daybook_write(book: *const u32, book_len: usize, bytes: *mut u8, bytes_len: usize, length: *mut usize) -> u32;
         pub fn daybook_euler(book: *const u32, book_len: usize, number: *mut i64) -> u32;
         pub fn daybook_held_count(book: *const u32, book_len: usize, count: *mut u32) -> u32;
@@ -65,10 +66,12 @@ pub enum Refusal {
     NoSuchEntity,
     /// 18: the byte buffer is shorter than the file.
     BufferTooShort,
+    /// 19: j is N_e or more.
+    NoSuchIndex,
 }
 
 impl Refusal {
-    /// The paper's number of this refusal, 1 to 18.
+    /// The paper's number of this refusal, 1 to 19.
     pub fn number(self) -> u32 {
         match self {
             Refusal::FileTooShort => 1,
@@ -89,6 +92,7 @@ impl Refusal {
             Refusal::NotHeld => 16,
             Refusal::NoSuchEntity => 17,
             Refusal::BufferTooShort => 18,
+            Refusal::NoSuchIndex => 19,
         }
     }
 }
@@ -126,7 +130,8 @@ fn answer<T>(number: u32, cell: u32, value: T) -> Result<T, Refusal> {
         16 => Refusal::NotHeld,
         17 => Refusal::NoSuchEntity,
         18 => Refusal::BufferTooShort,
-        _ => unreachable!("the library gives 0 to 18"),
+        19 => Refusal::NoSuchIndex,
+        _ => unreachable!("the library gives 0 to 19"),
     })
 }
 
@@ -159,6 +164,23 @@ pub fn row(book: &[u32], d: u32, e: u32, i: u32) -> Result<&[u32], Refusal> {
     let number = unsafe { c::daybook_row(book.as_ptr(), book.len(), d, e, i, &mut start, &mut count) };
     answer(number, 0, ())?;
     Ok(&book[start..start + count])
+}
+
+/// What a search in a row found.
+#[derive(Clone, Copy, Debug, PartialEq, Eq, Hash)]
+pub struct Found {
+    /// Whether the index is in the row.
+    pub yes: bool,
+    /// How many of the row's indices were read: those below it that lead, and the one after them, if there is one.
+    pub read: usize,
+}
+
+/// Whether j is in row i of d→e: the row is searched from its front, up to the first index that is not below j.
+pub fn find(book: &[u32], d: u32, e: u32, i: u32, j: u32) -> Result<Found, Refusal> {
+    let (mut yes, mut read) = (0, 0);
+    // SAFETY: as in `load`.
+    let number = unsafe { c::daybook_find(book.as_ptr(), book.len(), d, e, i, j, &mut yes, &mut read) };
+    answer(number, 0, Found { yes: yes == 1, read })
 }
 
 /// Writes the day file of the book's mesh and gives its length; later bytes stay as they were.

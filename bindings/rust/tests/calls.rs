@@ -1,5 +1,5 @@
 //! The paper's examples and each refusal, through the safe calls.
-use daybook::Refusal;
+use daybook::{Found, Refusal};
 
 /// The two triangles {0, 1, 3} and {1, 2, 3}.
 const T: [u8; 14] = [0x80, 0x04, 0x00, 0x10, 0x00, 0x00, 0x00, 0x40, 0x06, 0x00, 0x10, 0x01, 0x00, 0x0C];
@@ -38,6 +38,24 @@ fn a_row_is_the_books_own_memory() {
     let row = daybook::row(&book, 2, 0, 1).unwrap();
     assert_eq!(row, [1, 2, 3]);
     assert_eq!(row.as_ptr(), book[11..].as_ptr());
+}
+
+#[test]
+fn a_search_reads_no_further_than_it_needs() {
+    let mut book = loaded(60);
+    assert_eq!(daybook::find(&book, 0, 1, 1, 3), Err(Refusal::NotHeld));
+    daybook::ask(&mut book, 0, 1).unwrap();
+    assert_eq!(daybook::row(&book, 0, 1, 1), Ok(&[0, 2, 3][..]));
+    let find = |j| daybook::find(&book, 0, 1, 1, j);
+    assert_eq!(find(3), Ok(Found { yes: true, read: 3 }));
+    assert_eq!(find(1), Ok(Found { yes: false, read: 2 }));
+    assert_eq!(find(4), Ok(Found { yes: false, read: 3 }));
+    assert_eq!(find(5), Err(Refusal::NoSuchIndex));
+    assert_eq!(daybook::find(&book, 0, 1, 4, 5), Err(Refusal::NoSuchEntity));
+    assert_eq!(daybook::find(&book, 3, 0, 0, 0), Err(Refusal::DimensionOver));
+    book[7] = 1;
+    assert_eq!(daybook::find(&book, 0, 1, 1, 3), Err(Refusal::RowsBroken));
+    assert_eq!(daybook::find(&[], 0, 1, 1, 3), Err(Refusal::FrameBroken));
 }
 
 #[test]
@@ -95,8 +113,9 @@ fn numbers_are_the_papers() {
         Refusal::FileTooShort, Refusal::NoDimension, Refusal::ManyVertices, Refusal::ManyCells, Refusal::SpareBits, Refusal::FileLength,
         Refusal::VertexOut(0), Refusal::VertexTwice(0), Refusal::BitsAfter, Refusal::FrameBroken, Refusal::RowsBroken, Refusal::DimensionOver,
         Refusal::NoRoom, Refusal::AlreadyHeld, Refusal::NeedMissing, Refusal::NotHeld, Refusal::NoSuchEntity, Refusal::BufferTooShort,
+        Refusal::NoSuchIndex,
     ];
-    assert!(all.iter().map(|r| r.number()).eq(1..=18));
+    assert!(all.iter().map(|r| r.number()).eq(1..=19));
 }
 
 #[test]

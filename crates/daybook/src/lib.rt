@@ -24,14 +24,16 @@
 // | 8   | a cell names a vertex twice; with the lowest such cell      | load                    |
 // | 9   | bits after the last vertex are set                          | load                    |
 // | 10  | the frame rule is broken                                    | all but load            |
-// | 11  | the row rule is broken; for a row, its own offsets alone    | all but load, held_count |
-// | 12  | d or e is over D                                            | make, ask, row          |
+// | 11  | the row rule is broken; for row and find, the row's own     | all but load, held_count |
+// |     | offsets alone                                               |                         |
+// | 12  | d or e is over D                                            | make, ask, row, find    |
 // | 13  | the used length afterwards would pass the book's length     | load, make, ask         |
 // | 14  | the relation is held already                                | make                    |
 // | 15  | something that is needed is not held                        | make, euler             |
-// | 16  | the relation is not held                                    | row                     |
-// | 17  | i is N_d or more                                            | row                     |
+// | 16  | the relation is not held                                    | row, find               |
+// | 17  | i is N_d or more                                            | row, find               |
 // | 18  | the byte buffer is shorter than the file                    | write                   |
+// | 19  | j is N_e or more                                            | find                    |
 mod answers;
 mod asks;
 mod makes;
@@ -44,8 +46,10 @@ pub use loading::load;
 pub use makes::make;
 pub use reading::Counted;
 pub use reading::EulerNumber;
+pub use reading::Found;
 pub use reading::Written;
 pub use reading::euler;
+pub use reading::find;
 pub use reading::held_count;
 pub use reading::row;
 pub use reading::row_number;

@@ -1,10 +1,11 @@
--- What comes with a number: the cell with 7 and 8, and small dimensions with an accepted row.
+-- What comes with a number: the cell with 7 and 8, small dimensions with an accepted row, and a yes or no as a number.
 use mathlib.Core.Path.{_≡_, refl, sym, ap, _∙_}
 use mathlib.Core.Bool.{Bool, true, false, cond, not}
 use mathlib.Core.List.{List}
 use Prim.Native.Nat.{ℕ, _≤_, _<_}
 use native.Mathlib.Omega.{arith}
 use lib.Dec.{eqb}
+use mir.Val.{boolByte}
 use Rattle.rules.specs.Calls.{faultCell, loadNumber, loadCell, rowRules, rowNumber, firstBroken}
 use Rattle.rules.specs.Book.{dim, key, frameRight}
 use Rattle.rules.proofs.FrameRule.{framed}
@@ -36,3 +37,8 @@ accepted-low ws d e i z =
 pub key-low : (d e : ℕ) → d ≤ 3 → e ≤ 3 → key d e < 16
 unfolding key
 key-low d e a b = omega arith
+
+-- yes is 1 and no is 0
+pub flag-is : {b c : Bool} → b ≡ c → boolByte b ≡ cond c 1 0
+flag-is {c = true} e = ap boolByte e
+flag-is {c = false} e = ap boolByte e

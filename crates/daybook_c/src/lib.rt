@@ -5,11 +5,12 @@ ghost use Prim.Native.Nat.{_+_, _<_};
 ghost use lib.ListN.{length};
 ghost use lib.Dec.{eqb};
 ghost use Rattle.rules.specs.Book.{key, rowStart, rowOf};
-ghost use Rattle.rules.specs.Calls.{faultCell, loadNumber, loadWords, makeNumber, makeWords, askNumber, askWords, rowNumber, writeNumber, writeLength, writeBytes, eulerNumber, eulerOf, heldNumber, heldCount};
+ghost use Rattle.rules.specs.Calls.{faultCell, loadNumber, loadWords, makeNumber, makeWords, askNumber, askWords, rowNumber, findNumber, findFound, findRead, writeNumber, writeLength, writeBytes, eulerNumber, eulerOf, heldNumber, heldCount};
 use book::Place;
 use daybook::Asked;
 use daybook::Counted;
 use daybook::EulerNumber;
+use daybook::Found;
 use daybook::Loaded;
 use daybook::Made;
 use daybook::Written;
@@ -84,7 +85,7 @@ fn place_of_row(book: &[u32], k: u32, i: u32) -> Place
     Place(at + book::count(book, k / 4) as usize + 1 + first)
 }
 
-// Finds row i of d→e: where accepted, its first word's place and how many words it has are written.
+// Row i of d→e: where accepted, its first word's place and how many words it has are written.
 #[no_mangle]
 pub extern "C" fn daybook_row(
     book: &[u32],
@@ -106,6 +107,39 @@ pub extern "C" fn daybook_row(
     *count = row.len();
     *start = place_of_row(book, book::key(d, e), i).0;
     0
+}
+
+// Whether j is in row i of d→e: where accepted, 1 or 0 and how many indices were read are written.
+#[no_mangle]
+pub extern "C" fn daybook_find(
+    book: &[u32],
+    d: u32,
+    e: u32,
+    i: u32,
+    j: u32,
+    yes: &mut u32,
+    read: &mut usize,
+) -> u32
+    ensures number { λ r. ⌜ r ≡ findNumber (now (book .entry)) d e i j ⌝ }
+    ensures yes { λ r. ⌜ now (yes .exit) ≡ cond (eqb r 0) (cond (findFound (now (book .entry)) d e i j) 1 0) (now (yes .entry)) ⌝ }
+    ensures read { λ r. ⌜ now (read .exit) ≡ cond (eqb r 0) (findRead (now (book .entry)) d e i j) (now (read .entry)) ⌝ }
+{
+    match daybook::find(book, d, e, i, j) {
+        Found::Searched {
+            yes: found,
+            read: n,
+        } => {
+            *yes = found as u32;
+            *read = n;
+            0
+        }
+        Found::FrameBroken => 10,
+        Found::DimensionOver => 12,
+        Found::NotHeld => 16,
+        Found::NoSuchEntity => 17,
+        Found::RowsBroken => 11,
+        Found::NoSuchIndex => 19,
+    }
 }
 
 // Writes the book's file; where accepted, its length is written.

@@ -8,17 +8,18 @@ use lib.ListN.{length}
 use lib.Dec.{eqb}
 use borrow.Author.Tests.{eqb-true}
 use Rattle.rules.specs.Lists.{anyOf, has}
-use Rattle.rules.specs.Book.{count, key, named, held, rowOf, rowsOf, frameRight, rowsRight}
+use Rattle.rules.specs.Book.{count, key, named, held, rowOf, rowsOf}
 use Rattle.rules.specs.Calls.{rowNumber}
 use Rattle.rules.specs.Truth.{Mesh, number, trueRow, trueBook}
-use Rattle.promises.specs.Demand.{HeldTrue, Different, InSomeCell, BothWays, Valid, GivenOut, Determined, Alike, NothingElse}
+use Rattle.promises.specs.Demand.{HeldTrue, Different, InSomeCell, BothWays, Valid, GivenOut, FoundTrue, Determined, Alike, NothingElse}
 use Rattle.rules.proofs.Masks.{masks-equal}
-use Rattle.rules.proofs.Accepted.{rowed, row-is}
+use Rattle.rules.proofs.Accepted.{rowed, row-is, finds}
+use Rattle.rules.proofs.Found.{find-has}
+use Rattle.rules.proofs.TrueRows.{has-incident}
 use Rattle.rules.proofs.TrueFacts.{rows-both-ways, rows-valid, rows-different, rows-in-cell}
 use Rattle.rules.proofs.TrueBook.{book-rows, book-row, count-first, count-second}
-use Rattle.rules.proofs.TrueRight.{frame-right, rows-right}
 use Rattle.rules.proofs.Faultless.{faultless}
-use Rattle.promises.proofs.Kept.{Kept, kept-held, kept-dim, kept-mask, reached-kept}
+use Rattle.promises.proofs.Kept.{Kept, kept-held, kept-dim, kept-mask, kept-frame, kept-rows, reached-kept}
 
 -- a relation d→e held in a kept book: its counts and rows are the mesh's
 module _ (m : Mesh) (ws : List ℕ) (k : Kept m ws) (d e : ℕ) (l : e ≤ m .dims) (h : held ws (key d e) ≡ true) where
@@ -31,7 +32,7 @@ module _ (m : Mesh) (ws : List ℕ) (k : Kept m ws) (d e : ℕ) (l : e ≤ m .di
   first-count : count ws d ≡ number m d
   first-count = ap (λ (w : List ℕ). count w d) (k .words) ∙ count-first m (k .formed) (k .mask) (k .closed) d e four is-named (length ws)
 
-  second-count : count ws e ≡ number m e
+  pub second-count : count ws e ≡ number m e
   second-count = ap (λ (w : List ℕ). count w e) (k .words) ∙ count-second m (k .formed) (k .mask) (k .closed) d e four is-named (length ws)
 
   row-true : (i : ℕ) → i < number m d → rowOf ws (key d e) i ≡ trueRow m d e i
@@ -87,6 +88,15 @@ given-out m ws r d e i j t = go (eqb (rowNumber ws d e i) 0) refl (rw (row-is ws
         index-valid m ws k d e (rw (kept-dim m ws k) at (a .second)) (a .there) i j (a .below) u
     go false q u = absurd (none u)
 
+pub found-true : FoundTrue
+found-true m ws r d e i j z =
+    let k = reached-kept m ws r in
+    let a = finds ws d e i j z in
+    let l : e ≤ m .dims = rw (kept-dim m ws k) at (a .second) in
+    let x : i < number m d = rw (first-count m ws k d e l (a .there)) at (a .below) in
+    let y : j < number m e = rw (second-count m ws k d e l (a .there)) at (a .within) in
+    find-has ws (kept-frame m ws k) (kept-rows m ws k) d e i j z ∙ ap (has j) (row-true m ws k d e l (a .there) i x) ∙ has-incident m d e i j y
+
 pub determined : Determined
 determined m ws r =
     let k = reached-kept m ws r in
@@ -102,6 +112,6 @@ alike m ws vs r s l h =
 pub nothing-else : NothingElse
 nothing-else m ws r =
     let k = reached-kept m ws r in
-    let f : frameRight ws ≡ true = ap frameRight (k .words) ∙ frame-right m (k .formed) (k .mask) (k .closed) (length ws) in
-    let g : rowsRight ws ≡ true = ap rowsRight (k .words) ∙ rows-right m (k .formed) (k .mask) (k .closed) (length ws) in
-    (f, g, λ d e i bs. faultless ws f g d e i bs)
+    let f = kept-frame m ws k in
+    let g = kept-rows m ws k in
+    (f, g, λ d e i j bs. faultless ws f g d e i j bs)

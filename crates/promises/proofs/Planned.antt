@@ -10,12 +10,13 @@ use borrow.Author.Tests.{ltb-false, leb-false, le-leb, eqb-true}
 use Rattle.rules.specs.Lists.{allOf, filled}
 use Rattle.rules.specs.File.{lengthOf}
 use Rattle.rules.specs.Book.{dim, count, key, named, held, offset, total, needs, frameRight, rowsRight}
-use Rattle.rules.specs.Calls.{rule, firstBroken, added, through, withKey, asked, makeRules, makeNumber, askRules, askNumber, rowRules, rowNumber, writeLength, writeRules, writeNumber, eulerRules, eulerNumber, heldRules, heldNumber}
+use Rattle.rules.specs.Calls.{rule, firstBroken, added, through, withKey, asked, makeRules, makeNumber, askRules, askNumber, rowRules, rowNumber, findNumber, writeLength, writeRules, writeNumber, eulerRules, eulerNumber, heldRules, heldNumber}
 use Rattle.rules.specs.Truth.{Mesh, number, trueBook}
 use Rattle.rules.specs.Sequence.{Reached}
 use Rattle.rules.proofs.Tests.{all-weaker}
 use Rattle.rules.proofs.Masks.{masks-equal}
 use Rattle.rules.proofs.Bits.{write-length}
+use Rattle.rules.proofs.Accepted.{rowed, find-is}
 use Rattle.rules.proofs.FrameRule.{framed}
 use Rattle.rules.proofs.RowRule.{offset-rises, offset-total}
 use Rattle.rules.proofs.Needs.{key-div, key-again}
@@ -25,10 +26,10 @@ use Rattle.rules.proofs.Closed.{Closed}
 use Rattle.rules.proofs.TrueBook.{book-mask, book-dim, book-count, true-take, count-first}
 use Rattle.rules.proofs.TrueMake.{true-added}
 use Rattle.rules.proofs.TrueAsk.{true-asked}
-use Rattle.rules.proofs.TrueRight.{frame-right, rows-right}
-use Rattle.promises.specs.Plan.{wordsFor, maskThrough, maskWith, makePlan, askPlan, rowPlan, writePlan, eulerPlan}
+use Rattle.promises.specs.Plan.{wordsFor, maskThrough, maskWith, makePlan, askPlan, rowPlan, findPlan, writePlan, eulerPlan}
 use Rattle.promises.specs.Demand.{Holds, Planned}
-use Rattle.promises.proofs.Kept.{Kept, kept-held, kept-dim, kept-mask, reached-kept}
+use Rattle.promises.proofs.Kept.{Kept, kept-held, kept-dim, kept-mask, kept-frame, kept-rows, reached-kept}
+use Rattle.promises.proofs.DemandThree.{second-count}
 
 -- ---- Ask's mask: word 1 goes along the needs as the words do
 dim-added : (ws : List ℕ) (d e : ℕ) → dim (added ws d e) ≡ dim ws
@@ -85,10 +86,10 @@ key-mask (suc n) ws k = go (held ws k) refl (through-mask n (key-mask n) (needs 
 -- ---- a kept book
 module _ (m : Mesh) (ws : List ℕ) (k : Kept m ws) where
   frame : frameRight ws ≡ true
-  frame = ap frameRight (k .words) ∙ frame-right m (k .formed) (k .mask) (k .closed) (length ws)
+  frame = kept-frame m ws k
 
   rows : rowsRight ws ≡ true
-  rows = ap rowsRight (k .words) ∙ rows-right m (k .formed) (k .mask) (k .closed) (length ws)
+  rows = kept-rows m ws k
 
   all-held : (ks : List ℕ) → allOf (held ws) ks ≡ allOf (named (k .mask)) ks
   unfolding allOf
@@ -174,6 +175,21 @@ module _ (m : Mesh) (ws : List ℕ) (k : Kept m ws) where
       go false p false q false r = refl
       go false p false q true r = rw (← counted (ltb-false _ _ q) r) (last (ltb-false _ _ q) r (leb (count ws d) i) refl)
 
+  -- Find
+  second-counted : (d e i : ℕ) → rowNumber ws d e i ≡ 0 → count ws e ≡ number m e
+  second-counted d e i z =
+      let a = rowed ws d e i z in
+      second-count m ws k d e (rw (kept-dim m ws k) at (a .second)) (a .there)
+
+  pub find-planned : (d e i j : ℕ) → findNumber ws d e i j ≡ findPlan m (k .mask) d e i j
+  unfolding findPlan firstBroken
+  find-planned d e i j = find-is ws d e i j ∙ rw (← row-planned d e i) (agreed (eqb (rowNumber ws d e i) 0) refl)
+    where
+      agreed : (b : Bool) → eqb (rowNumber ws d e i) 0 ≡ b
+          → _≡_ {A = ℕ} (cond b (cond (leb (count ws e) j) 19 0) (rowNumber ws d e i)) (cond b (cond (leb (number m e) j) 19 0) (rowNumber ws d e i))
+      agreed true q = rw (second-counted d e i (eqb-true _ _ q))
+      agreed false q = refl
+
   -- Write, Euler, Held count
   pub write-planned : (bs : List ℕ) → writeNumber ws bs ≡ writePlan (length bs) m
   unfolding writeNumber writeRules writePlan firstBroken
@@ -194,7 +210,7 @@ module _ (m : Mesh) (ws : List ℕ) (k : Kept m ws) where
   same-mask mask h = masks-equal 16 mask (k .mask) (h .small) (k .closed .small) (λ j l. h .names j l ∙ kept-held m ws k j)
 
 pub planned : Planned
-planned m ws r mask h d e i bs =
+planned m ws r mask h d e i j bs =
     let k = reached-kept m ws r in
     rw (same-mask m ws k mask h)
-    (make-planned m ws k d e, ask-planned m ws k d e, row-planned m ws k d e i, write-planned m ws k bs, euler-planned m ws k, held-planned m ws k)
+    (make-planned m ws k d e, ask-planned m ws k d e, row-planned m ws k d e i, find-planned m ws k d e i j, write-planned m ws k bs, euler-planned m ws k, held-planned m ws k)

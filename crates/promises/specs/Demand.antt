@@ -8,10 +8,10 @@ use lib.Dec.{eqb}
 use Rattle.rules.specs.Lists.{anyOf, allOf, has, inside, sorted}
 use Rattle.rules.specs.File.{fileDim, fileVertices, cellsInFile}
 use Rattle.rules.specs.Book.{key, named, held, count, rowOf, rowsOf, frameRight, rowsRight}
-use Rattle.rules.specs.Calls.{loadNumber, loadWords, makeNumber, makeWords, askNumber, askWords, rowNumber, rowPart, written, writeNumber, eulerNumber, heldNumber}
-use Rattle.rules.specs.Truth.{Mesh, meshOf, number, trueRows, trueBook}
+use Rattle.rules.specs.Calls.{loadNumber, loadWords, makeNumber, makeWords, askNumber, askWords, rowNumber, rowPart, findNumber, findFound, written, writeNumber, eulerNumber, heldNumber}
+use Rattle.rules.specs.Truth.{Mesh, meshOf, number, incident, trueRows, trueBook}
 use Rattle.rules.specs.Sequence.{Reached}
-use Rattle.promises.specs.Plan.{makePlan, askPlan, rowPlan, writePlan, eulerPlan}
+use Rattle.promises.specs.Plan.{makePlan, askPlan, rowPlan, findPlan, writePlan, eulerPlan}
 
 -- ==== demand 3, part by part
 -- every relation held is the true incidence of the last accepted mesh
@@ -42,6 +42,10 @@ Valid = (m : Mesh) (ws : List ℕ) → Reached m ws → (d e i j : ℕ) → d �
 abbrev pub GivenOut : Type 0
 GivenOut = (m : Mesh) (ws : List ℕ) → Reached m ws → (d e i j : ℕ) → has j (rowPart ws d e i) ≡ true → (j < count ws e) × (count ws e ≡ number m e)
 
+-- Find says yes exactly where (e, j) is truly incident to (d, i)
+abbrev pub FoundTrue : Type 0
+FoundTrue = (m : Mesh) (ws : List ℕ) → Reached m ws → (d e i j : ℕ) → findNumber ws d e i j ≡ 0 → findFound ws d e i j ≡ incident m d e i j
+
 -- the words of the book depend only on its length, that mesh and which relations are held
 abbrev pub Determined : Type 0
 Determined = (m : Mesh) (ws : List ℕ) → Reached m ws → ws ≡ trueBook (length ws) m (getD ws 1 0)
@@ -52,8 +56,8 @@ Alike = (m : Mesh) (ws vs : List ℕ) → Reached m ws → Reached m vs → leng
 
 -- the frame rule and the row rule hold, and no call gives 10 or 11
 abbrev pub NothingElse : Type 0
-NothingElse = (m : Mesh) (ws : List ℕ) → Reached m ws → (frameRight ws ≡ true) × (rowsRight ws ≡ true) × ((d e i : ℕ) (bs : List ℕ)
-    → allOf (λ n. not (eqb n 10 || eqb n 11)) (makeNumber ws d e ∷ askNumber ws d e ∷ rowNumber ws d e i ∷ writeNumber ws bs ∷ eulerNumber ws ∷ heldNumber ws ∷ []) ≡ true)
+NothingElse = (m : Mesh) (ws : List ℕ) → Reached m ws → (frameRight ws ≡ true) × (rowsRight ws ≡ true) × ((d e i j : ℕ) (bs : List ℕ)
+    → allOf (λ n. not (eqb n 10 || eqb n 11)) (makeNumber ws d e ∷ askNumber ws d e ∷ rowNumber ws d e i ∷ findNumber ws d e i j ∷ writeNumber ws bs ∷ eulerNumber ws ∷ heldNumber ws ∷ []) ≡ true)
 
 -- the mask is the set of relations that the book holds
 pub record Holds (ws : List ℕ) (mask : ℕ) : Type 0 where
@@ -62,10 +66,11 @@ pub record Holds (ws : List ℕ) (mask : ℕ) : Type 0 where
 
 -- each call's number is the one planned from the book's length, the mesh and the set of relations held
 abbrev pub Planned : Type 0
-Planned = (m : Mesh) (ws : List ℕ) → Reached m ws → (mask : ℕ) → Holds ws mask → (d e i : ℕ) (bs : List ℕ)
+Planned = (m : Mesh) (ws : List ℕ) → Reached m ws → (mask : ℕ) → Holds ws mask → (d e i j : ℕ) (bs : List ℕ)
     → (makeNumber ws d e ≡ makePlan (length ws) m mask d e)
     × (askNumber ws d e ≡ askPlan (length ws) m mask d e)
     × (rowNumber ws d e i ≡ rowPlan m mask d e i)
+    × (findNumber ws d e i j ≡ findPlan m mask d e i j)
     × (writeNumber ws bs ≡ writePlan (length bs) m)
     × (eulerNumber ws ≡ eulerPlan m mask)
     × (heldNumber ws ≡ 0)

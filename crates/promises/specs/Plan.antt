@@ -3,7 +3,7 @@ use mathlib.Core.Bool.{cond, not, _&&_, _||_}
 use mathlib.Core.List.{List, [], _∷_}
 use Prim.Native.Nat.{ℕ, zero, suc, _+_, _/_, _%_, _^_}
 use lib.ListN.{length}
-use lib.Dec.{ltb, leb}
+use lib.Dec.{eqb, ltb, leb}
 use Rattle.rules.specs.Lists.{allOf}
 use Rattle.rules.specs.File.{lengthOf}
 use Rattle.rules.specs.Book.{key, named, needs}
@@ -44,6 +44,12 @@ askPlan n m mask d e =
 unfoldable pub rowPlan : Mesh → ℕ → ℕ → ℕ → ℕ → ℕ
 rowPlan m mask d e i =
     firstBroken (rule (ltb (m .dims) d || ltb (m .dims) e) 12 ∷ rule (not (named mask (key d e))) 16 ∷ rule (leb (number m d) i) 17 ∷ []) 0
+
+-- Find: as Row; where Row would accept, 19 if there is no entity (e, j), else 0
+unfoldable pub findPlan : Mesh → ℕ → ℕ → ℕ → ℕ → ℕ → ℕ
+findPlan m mask d e i j =
+    let n = rowPlan m mask d e i in
+    cond (eqb n 0) (firstBroken (rule (leb (number m e) j) 19 ∷ []) 0) n
 
 -- Write to n bytes: 18 if the mesh's file is longer, else 0
 unfoldable pub writePlan : ℕ → Mesh → ℕ

@@ -1,12 +1,15 @@
 -- An answer is what its number and its value say: two answers that a contract allows are equal.
 use mathlib.Core.Path.{_≡_, refl, sym, ap₂, _∙_}
-use mathlib.Core.Bool.{cond}
+use mathlib.Core.Bool.{Bool, false, cond}
 use mathlib.Core.List.{List}
 use Prim.Native.Nat.{ℕ, zero, suc, _<_}
 use native.Mathlib.Omega.{arith}
 use lib.Dec.{eqb}
 use lib.IntN.{ℤ, pos}
-use Rattle.rules.specs.Calls.{writeNumber, writeLength, eulerNumber, eulerOf, heldNumber, heldCount}
+use Rattle.rules.specs.Calls.{findNumber, findFound, findRead, writeNumber, writeLength, eulerNumber, eulerOf, heldNumber, heldCount}
+use Rattle.reading.specs.declared.answers.Found.{Found}
+use Rattle.reading.specs.declared.answers.Found.the-variants.{Searched, DimensionOver, NotHeld, NoSuchEntity, NoSuchIndex}
+use Rattle.reading.specs.declared.answers.Found.the-variants as finds
 use Rattle.reading.specs.declared.answers.Written.{Written}
 use Rattle.reading.specs.declared.answers.Written.the-variants.{Bytes, BufferTooShort}
 use Rattle.reading.specs.declared.answers.Written.the-variants as writes
@@ -16,7 +19,40 @@ use Rattle.reading.specs.declared.answers.EulerNumber.the-variants as eu
 use Rattle.reading.specs.declared.answers.Counted.{Counted}
 use Rattle.reading.specs.declared.answers.Counted.the-variants.{Relations}
 use Rattle.reading.specs.declared.answers.Counted.the-variants as counts
-use Rattle.reading.specs.Answers.{writtenNumber, writtenLength, eulerAnswer, eulerValue, countedNumber, countedRelations}
+use Rattle.reading.specs.Answers.{foundNumber, foundYes, foundRead, writtenNumber, writtenLength, eulerAnswer, eulerValue, countedNumber, countedRelations}
+
+-- ==== Find
+foundOf : ℕ → Bool → ℕ → Found
+foundOf n y v =
+    cond (eqb n 0) (Searched y v)
+    (cond (eqb n 10) finds.FrameBroken
+    (cond (eqb n 12) DimensionOver (cond (eqb n 16) NotHeld (cond (eqb n 17) NoSuchEntity (cond (eqb n 11) finds.RowsBroken NoSuchIndex)))))
+
+found-back : (a : Found) → foundOf (foundNumber a) (foundYes a) (foundRead a) ≡ a
+unfolding foundOf foundNumber foundYes foundRead
+found-back (Searched y n) = refl
+found-back finds.FrameBroken = refl
+found-back DimensionOver = refl
+found-back NotHeld = refl
+found-back NoSuchEntity = refl
+found-back finds.RowsBroken = refl
+found-back NoSuchIndex = refl
+
+pub find-determined : (ws : List ℕ) (d e i j : ℕ) (a b : Found)
+    → foundNumber a ≡ findNumber ws d e i j → foundYes a ≡ findFound ws d e i j → foundRead a ≡ findRead ws d e i j
+    → foundNumber b ≡ findNumber ws d e i j → foundYes b ≡ findFound ws d e i j → foundRead b ≡ findRead ws d e i j → a ≡ b
+find-determined ws d e i j a b n y v m x w = sym (found-back a) ∙ rw (n, y, v, ← m, ← x, ← w) (found-back b)
+
+-- a refusal says no, and that nothing was read
+pub found-bare : (a : Found) → 0 < foundNumber a → (foundYes a ≡ false) × (foundRead a ≡ 0)
+unfolding foundNumber foundYes foundRead
+found-bare (Searched y n) l = absurd (omega arith)
+found-bare finds.FrameBroken l = (refl, refl)
+found-bare DimensionOver l = (refl, refl)
+found-bare NotHeld l = (refl, refl)
+found-bare NoSuchEntity l = (refl, refl)
+found-bare finds.RowsBroken l = (refl, refl)
+found-bare NoSuchIndex l = (refl, refl)
 
 -- ==== Write
 writtenOf : ℕ → ℕ → Written

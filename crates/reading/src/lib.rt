@@ -1,12 +1,15 @@
-// The calls that leave the book as it is: Row, Write, the Euler number and the held count. `daybook` has them beside Load, Make and Ask.
+// The calls that leave the book as it is: Row, Find, Write, the Euler number and the held count. `daybook` has them beside Load, Make and Ask.
 mod answers;
+mod finds;
 mod numbers;
 mod parts;
 mod writes;
 
 pub use answers::Counted;
 pub use answers::EulerNumber;
+pub use answers::Found;
 pub use answers::Written;
+pub use finds::find;
 pub use numbers::euler;
 pub use numbers::held_count;
 pub use parts::row;

@@ -1,16 +1,16 @@
 -- What an accepted call has passed: where the number is 0, no rule of its list is broken.
-use mathlib.Core.Path.{_≡_, refl}
+use mathlib.Core.Path.{_≡_, refl, _∙_}
 use mathlib.Core.Bool.{Bool, true, false, cond, not, _&&_, _||_}
-use mathlib.Core.List.{List, [], _∷_}
+use mathlib.Core.List.{List, [], _∷_, _++_, map, List·Memᴰ as In, List·Memᴰ·head as here, List·Memᴰ·tail as there}
 use Prim.Native.Nat.{ℕ, _≤_, _<_}
 use native.Mathlib.Omega.{arith}
 use lib.ListN.{length, length-append, length-replicate}
-use lib.Dec.{eqb, ltb}
+use lib.Dec.{eqb, ltb, leb}
 use borrow.Author.Tests.{not-true, not-false, ltb-true, ltb-false, leb-false, eqb-true, eqb-false, eq-eqb, ne-eqb, le-ltb}
 use Rattle.rules.specs.Lists.{anyOf, allOf, filled}
 use Rattle.rules.specs.File.{fileDim, fileVertices, fileCells, fileSpare, lengthOf, cellsInFile, outOf, twice, padSet}
 use Rattle.rules.specs.Book.{dim, count, key, held, needs, rowOf}
-use Rattle.rules.specs.Calls.{Rule, firstBroken, loaded, fileRules, loadRules, loadNumber, loadWords, added, makeRules, makeNumber, makeWords, asked, askRules, askNumber, askWords, rowRules, rowNumber, rowPart}
+use Rattle.rules.specs.Calls.{Rule, firstBroken, loaded, fileRules, loadRules, loadNumber, loadWords, added, makeRules, makeNumber, makeWords, asked, askRules, askNumber, askWords, rowRules, rowNumber, rowPart, foundIn, readIn, findRules, findNumber, findFound, findRead}
 use Rattle.rules.proofs.Tests.{left, right, neither}
 
 -- where the answer is 0 and no rule's answer is, no rule was broken
@@ -26,6 +26,33 @@ unbroken (r ∷ rs) p h = go (r .broken) refl h (unbroken rs (right (ltb 0 (r .a
         → (firstBroken rs 0 ≡ 0 → allOf (λ r. not (r .broken)) rs ≡ true) → (not (r .broken) && allOf (λ r. not (r .broken)) rs) ≡ true
     go true q h ih = absurd (omega (arith, l))
     go false q h ih = rw q (ih h)
+
+-- rules behind other rules: their answer counts where none of the first is broken
+pub first-append : (rs qs : List (Rule ℕ)) → allOf (λ r. ltb 0 (r .answer)) rs ≡ true
+    → firstBroken (rs ++ qs) 0 ≡ cond (eqb (firstBroken rs 0) 0) (firstBroken qs 0) (firstBroken rs 0)
+unfolding allOf firstBroken
+first-append [] qs p = refl
+first-append (r ∷ rs) qs p = go (r .broken) (first-append rs qs (right (ltb 0 (r .answer)) _ p))
+  where
+    l : 0 < r .answer
+    l = search (left, ltb-true)
+
+    go : (b : Bool) → firstBroken (rs ++ qs) 0 ≡ cond (eqb (firstBroken rs 0) 0) (firstBroken qs 0) (firstBroken rs 0)
+        → cond b (r .answer) (firstBroken (rs ++ qs) 0)
+        ≡ cond (eqb (cond b (r .answer) (firstBroken rs 0)) 0) (firstBroken qs 0) (cond b (r .answer) (firstBroken rs 0))
+    go true e = rw (ne-eqb (r .answer) 0 (omega (arith, l)))
+    go false e = e
+
+-- the answer is 0 or one of the rules' own
+pub first-given : (rs : List (Rule ℕ)) → In (firstBroken rs 0) (0 ∷ map (λ r. r .answer) rs)
+unfolding firstBroken
+first-given [] = here refl
+first-given (r ∷ rs) = go (r .broken) (first-given rs)
+  where
+    go : (b : Bool) → In (firstBroken rs 0) (0 ∷ map (λ r. r .answer) rs) → In (cond b (r .answer) (firstBroken rs 0)) (0 ∷ r .answer ∷ map (λ r. r .answer) rs)
+    go true i = there (here refl)
+    go false (here e) = here e
+    go false (there i) = there (there i)
 
 pub length-filled : (n : ℕ) (ws : List ℕ) → length ws ≤ n → length (filled n ws) ≡ n
 unfolding filled
@@ -163,3 +190,49 @@ rowed ws d e i h =
 pub row-is : (ws : List ℕ) (d e i : ℕ) → rowPart ws d e i ≡ cond (eqb (rowNumber ws d e i) 0) (rowOf ws (key d e) i) []
 unfolding rowPart
 row-is ws d e i = refl
+
+-- ---- Find
+pub record Finds (ws : List ℕ) (d e i j : ℕ) : Type 0 where
+  pub first : d ≤ dim ws
+  pub second : e ≤ dim ws
+  pub there : held ws (key d e) ≡ true
+  pub below : i < count ws d
+  pub within : j < count ws e
+
+find-rules : (ws : List ℕ) (d e i j : ℕ) → findNumber ws d e i j ≡ 0 → allOf (λ r. not (r .broken)) (findRules ws d e i j) ≡ true
+unfolding findNumber
+find-rules ws d e i j h = unbroken (findRules ws d e i j) (unfold allOf findRules rowRules in refl) h
+
+pub finds : (ws : List ℕ) (d e i j : ℕ) → findNumber ws d e i j ≡ 0 → Finds ws d e i j
+unfolding findRules rowRules allOf
+finds ws d e i j h =
+    let r = find-rules ws d e i j h in
+    let n : not (ltb (dim ws) d || ltb (dim ws) e) ≡ true = search (left, right) depth 9 in
+    let o = neither (ltb (dim ws) d) (ltb (dim ws) e) n in
+    let q : not (not (held ws (key d e))) ≡ true = search (left, right) depth 9 in
+    record {
+      first = ltb-false (dim ws) d (o .0);
+      second = ltb-false (dim ws) e (o .1);
+      there = not-false _ (not-true _ q);
+      below = let x : leb (count ws d) i ≡ false = search (left, right, not-true) depth 9 in leb-false (count ws d) i x;
+      within = let x : leb (count ws e) j ≡ false = search (left, right, not-true) depth 9 in leb-false (count ws e) j x;
+    }
+
+-- Find's number is Row's, and 19 where Row accepts and j is N_e or more
+pub find-is : (ws : List ℕ) (d e i j : ℕ) → findNumber ws d e i j ≡ cond (eqb (rowNumber ws d e i) 0) (cond (leb (count ws e) j) 19 0) (rowNumber ws d e i)
+unfolding findNumber findRules rowNumber
+find-is ws d e i j = first-append (rowRules ws d e i) _ (unfold allOf rowRules in refl) ∙ unfold firstBroken in refl
+
+-- the numbers that Find gives
+pub find-given : (ws : List ℕ) (d e i j : ℕ) → In (findNumber ws d e i j) (0 ∷ 10 ∷ 12 ∷ 16 ∷ 17 ∷ 11 ∷ 19 ∷ [])
+unfolding findNumber
+find-given ws d e i j = unfold findRules rowRules in first-given (findRules ws d e i j)
+
+-- what comes with them
+pub find-accepted : (ws : List ℕ) (d e i j : ℕ) → findNumber ws d e i j ≡ 0 → (findFound ws d e i j ≡ foundIn j (rowOf ws (key d e) i)) × (findRead ws d e i j ≡ readIn j (rowOf ws (key d e) i))
+unfolding findFound findRead
+find-accepted ws d e i j h = (rw h, rw h)
+
+pub find-refused : (ws : List ℕ) (d e i j : ℕ) → 0 < findNumber ws d e i j → (findFound ws d e i j ≡ false) × (findRead ws d e i j ≡ 0)
+unfolding findFound findRead
+find-refused ws d e i j l = let n = ne-eqb (findNumber ws d e i j) 0 (omega arith) in (rw n, rw n)

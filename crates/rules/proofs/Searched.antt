@@ -1,7 +1,7 @@
 -- Searches: the first member that passes a test, and a member that stands twice.
 use mathlib.Core.Path.{_≡_, refl, sym, _∙_}
 use mathlib.Core.Logic.{_⊎_, inl, inr}
-use mathlib.Core.Bool.{Bool, true, false, cond, _||_}
+use mathlib.Core.Bool.{Bool, true, false, cond, _||_, false≢true}
 use mathlib.Core.List.{List, [], _∷_, _++_, map, List·Memᴰ as In, List·Memᴰ·head as here, List·Memᴰ·tail as there}
 use Prim.Native.Nat.{ℕ, zero, suc, _+_, _≤_, _<_}
 use native.Mathlib.Nat.{add-zero}
@@ -14,6 +14,7 @@ use borrow.Author.Tests.{ltb-true, lt-ltb}
 use Rattle.rules.specs.Lists.{upTo, anyOf, firstAt, has}
 use Rattle.rules.specs.File.{twice}
 use Rattle.rules.proofs.Tests.{agree, or-right, has-of, has-is, cases, getD-in}
+use Rattle.rules.proofs.Compared.{order}
 use Rattle.rules.proofs.Numbered.{last-or-below, length-rows, getD-rows}
 
 module _ {ℓ} {A : Type ℓ} (p : A → Bool) where
@@ -49,6 +50,50 @@ module _ {ℓ} {A : Type ℓ} (p : A → Bool) where
         let e : drop c (map f (upTo n)) ≡ [] = let q : c ≡ length (map f (upTo n)) = rw length-rows (omega arith) in rw q (drop-length (map f (upTo n))) in
         rw e (unfold firstAt in add-zero c)
 
+-- ---- the first place that passes, by places
+-- a member has a place
+pub place-in {ℓ} : {A : Type ℓ} {x : A} (xs : List A) (d : A) → In x xs → (i : ℕ) × (i < length xs) × (x ≡ getD xs i d)
+place-in (y ∷ ys) d (here e) = (0, omega arith, e)
+place-in (y ∷ ys) d (there i) = let (j, l, e) = place-in ys d i in (suc j, omega arith, e)
+
+module _ {ℓ} {A : Type ℓ} (p : A → Bool) (d : A) where
+  pub first-passes : (xs : List A) → firstAt p xs < length xs → p (getD xs (firstAt p xs) d) ≡ true
+  unfolding firstAt
+  first-passes [] l = absurd (omega arith)
+  first-passes (x ∷ xs) l = go (p x) refl l (first-passes xs)
+    where
+      go : (b : Bool) → p x ≡ b → cond b 0 (suc (firstAt p xs)) < suc (length xs) → (firstAt p xs < length xs → p (getD xs (firstAt p xs) d) ≡ true) → p (getD (x ∷ xs) (cond b 0 (suc (firstAt p xs))) d) ≡ true
+      go true e k ih = e
+      go false e k ih = ih (omega arith)
+
+  pub first-before : (xs : List A) (j : ℕ) → j < firstAt p xs → p (getD xs j d) ≡ false
+  unfolding firstAt
+  first-before [] j l = absurd (omega arith)
+  first-before (x ∷ xs) j l = go (p x) refl j l (first-before xs)
+    where
+      go : (b : Bool) → p x ≡ b → (j : ℕ) → j < cond b 0 (suc (firstAt p xs)) → ((i : ℕ) → i < firstAt p xs → p (getD xs i d) ≡ false) → p (getD (x ∷ xs) j d) ≡ false
+      go true e j k ih = absurd (omega arith)
+      go false e zero k ih = e
+      go false e (suc j) k ih = ih j (omega arith)
+
+  pub first-most : (xs : List A) → firstAt p xs ≤ length xs
+  unfolding firstAt
+  first-most [] = omega arith
+  first-most (x ∷ xs) = go (p x) (first-most xs)
+    where
+      go : (b : Bool) → firstAt p xs ≤ length xs → cond b 0 (suc (firstAt p xs)) ≤ suc (length xs)
+      go true l = omega arith
+      go false l = omega arith
+
+  -- it is i, where the members before do not pass, and i passes or is the length
+  pub first-is : (xs : List A) (i : ℕ) → i ≤ length xs → ((j : ℕ) → j < i → p (getD xs j d) ≡ false) → (i < length xs → p (getD xs i d) ≡ true) → firstAt p xs ≡ i
+  first-is xs i l b t = go (order (firstAt p xs) i)
+    where
+      go : (firstAt p xs ≡ i) ⊎ ((firstAt p xs < i) ⊎ (i < firstAt p xs)) → firstAt p xs ≡ i
+      go (inl e) = e
+      go (inr (inl m)) = absurd (false≢true (sym (b (firstAt p xs) m) ∙ first-passes xs (omega arith)))
+      go (inr (inr m)) = absurd (false≢true (sym (first-before xs i m) ∙ t (omega (arith, first-most xs))))
+
 -- ---- a member that stands twice
 -- of any two places below n, the members differ
 abbrev pub Apart : List ℕ → ℕ → Type 0
@@ -63,11 +108,7 @@ twice-at (x ∷ xs) (suc a) zero l h e = absurd (omega arith)
 twice-at (x ∷ xs) (suc a) (suc b) l h e = or-right (has x xs) (twice xs) (twice-at xs a b (omega arith) (omega arith) e)
 
 place-of : (x : ℕ) (xs : List ℕ) → has x xs ≡ true → (b : ℕ) × (b < length xs) × (x ≡ getD xs b 0)
-place-of x xs h = go xs (has-is x xs h)
-  where
-    go : (ys : List ℕ) → In x ys → (b : ℕ) × (b < length ys) × (x ≡ getD ys b 0)
-    go (y ∷ ys) (here e) = (0, omega arith, e)
-    go (y ∷ ys) (there i) = let (b, l, e) = go ys i in (suc b, omega arith, e)
+place-of x xs h = place-in xs 0 (has-is x xs h)
 
 pub apart-once : (xs : List ℕ) → Apart xs (length xs) → twice xs ≡ false
 unfolding twice

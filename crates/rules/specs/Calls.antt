@@ -5,7 +5,7 @@ use Prim.Native.Nat.{ℕ, zero, suc, _+_, _-_, _/_, _%_, _^_}
 use lib.ListN.{length, getD, take, drop}
 use lib.Dec.{eqb, ltb, leb}
 use lib.IntN.{ℤ, subℕ}
-use Rattle.rules.specs.Lists.{anyOf, allOf, joined, sorted, firstAt, filled}
+use Rattle.rules.specs.Lists.{anyOf, allOf, has, joined, sorted, firstAt, filled}
 use Rattle.rules.specs.File.{field, fileDim, fileVertices, fileCells, fileSpare, lengthOf, cellsInFile, outOf, twice, padSet, fileBytes}
 use Rattle.rules.specs.Book.{dim, count, key, held, keysHeld, place, offset, total, rowOf, rowsOf, relation, needs, frameRight, rowsRight}
 use Rattle.rules.specs.Made.{made}
@@ -156,6 +156,39 @@ rowNumber ws d e i = firstBroken (rowRules ws d e i) 0
 -- the part of the book that Row hands back, empty on a refusal
 unfoldable pub rowPart : List ℕ → ℕ → ℕ → ℕ → List ℕ
 rowPart ws d e i = cond (eqb (rowNumber ws d e i) 0) (rowOf ws (key d e) i) []
+
+-- ==== "Is this point on that edge?": a search in a row
+-- how many indices lead: those below j, up to the first that is not
+unfoldable pub leading : ℕ → List ℕ → ℕ
+leading j r = firstAt (leb j) r
+
+-- the one after them, if there is one
+unfoldable pub following : ℕ → List ℕ → List ℕ
+following j r = take 1 (drop (leading j r) r)
+
+-- yes: this other one is j
+unfoldable pub foundIn : ℕ → List ℕ → Bool
+foundIn j r = has j (following j r)
+
+-- the number of indices read: the leading ones, plus one if there is another after them
+unfoldable pub readIn : ℕ → List ℕ → ℕ
+readIn j r = leading j r + length (following j r)
+
+-- Find's refusals: Row's, then 19
+unfoldable pub findRules : List ℕ → ℕ → ℕ → ℕ → ℕ → List (Rule ℕ)
+findRules ws d e i j = rowRules ws d e i ++ (rule (leb (count ws e) j) 19 ∷ [])
+
+-- Find's number, 0 where accepted
+unfoldable pub findNumber : List ℕ → ℕ → ℕ → ℕ → ℕ → ℕ
+findNumber ws d e i j = firstBroken (findRules ws d e i j) 0
+
+-- whether j is in row i of d→e, no on a refusal
+unfoldable pub findFound : List ℕ → ℕ → ℕ → ℕ → ℕ → Bool
+findFound ws d e i j = cond (eqb (findNumber ws d e i j) 0) (foundIn j (rowOf ws (key d e) i)) false
+
+-- how many indices were read, 0 on a refusal
+unfoldable pub findRead : List ℕ → ℕ → ℕ → ℕ → ℕ → ℕ
+findRead ws d e i j = cond (eqb (findNumber ws d e i j) 0) (readIn j (rowOf ws (key d e) i)) 0
 
 -- ==== "Calls": Write
 -- the bytes of the book's file: word 0, the vertices of D→0 with 13 bits each, zero bits to the end of the byte
