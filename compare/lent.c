@@ -250,7 +250,7 @@ static void reads_no_further(void) {
     on.sa_handler = on_fault;
     sigaction(SIGSEGV, &on, NULL);
     if (mprotect(book + first, page, PROT_NONE)) exit(3);
-    if (j == 0 || touches(book, words, hub, j - 1, j)) fail("no index is read that is not counted");
+    if (j == 0 || touches(book, words, hub, j - 1, j)) fail("the indices that a search reads");
     if (!touches(book, words, hub, j, j + 1)) fail("a page that may not be read");
     signal(SIGSEGV, SIG_DFL);
     printf("a search for index %lu of a row of %lu reads none behind it\n", (unsigned long)(j - 1), (unsigned long)count);

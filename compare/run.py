@@ -172,7 +172,7 @@ class Runs:
         """A search for an index, mostly for one that is in the row or beside one that is, or for N_e or the one before it."""
         rng = self.rng
         d, e, i, bound = self.place()
-        number, start, count = rules.row(self.book, d, e, i)
+        start, count = rules.row(self.book, d, e, i)[1:]
         near = self.book[start:start + count] + ([bound, bound - 1] if bound else [])
         j = rng.choice(near) + rng.choice((0, 0, 1, -1)) if near and rng.random() < 0.8 else self.number()
         self.find(d, e, i, j & 0xFFFFFFFF)

@@ -91,10 +91,11 @@ given-out m ws r d e i j t = go (eqb (rowNumber ws d e i) 0) refl (rw (row-is ws
 pub found-true : FoundTrue
 found-true m ws r d e i j z =
     let k = reached-kept m ws r in
-    let a = finds ws d e i j z in
+    let (z₀, w) = finds ws d e i j z in
+    let a = rowed ws d e i z₀ in
     let l : e ≤ m .dims = rw (kept-dim m ws k) at (a .second) in
     let x : i < number m d = rw (first-count m ws k d e l (a .there)) at (a .below) in
-    let y : j < number m e = rw (second-count m ws k d e l (a .there)) at (a .within) in
+    let y : j < number m e = rw (second-count m ws k d e l (a .there)) at w in
     find-has ws (kept-frame m ws k) (kept-rows m ws k) d e i j z ∙ ap (has j) (row-true m ws k d e l (a .there) i x) ∙ has-incident m d e i j y
 
 pub determined : Determined

@@ -1,5 +1,5 @@
 -- What an accepted call has passed: where the number is 0, no rule of its list is broken.
-use mathlib.Core.Path.{_≡_, refl, _∙_}
+use mathlib.Core.Path.{_≡_, refl, sym, _∙_}
 use mathlib.Core.Bool.{Bool, true, false, cond, not, _&&_, _||_}
 use mathlib.Core.List.{List, [], _∷_, _++_, map, List·Memᴰ as In, List·Memᴰ·head as here, List·Memᴰ·tail as there}
 use Prim.Native.Nat.{ℕ, _≤_, _<_}
@@ -192,36 +192,19 @@ unfolding rowPart
 row-is ws d e i = refl
 
 -- ---- Find
-pub record Finds (ws : List ℕ) (d e i j : ℕ) : Type 0 where
-  pub first : d ≤ dim ws
-  pub second : e ≤ dim ws
-  pub there : held ws (key d e) ≡ true
-  pub below : i < count ws d
-  pub within : j < count ws e
-
-find-rules : (ws : List ℕ) (d e i j : ℕ) → findNumber ws d e i j ≡ 0 → allOf (λ r. not (r .broken)) (findRules ws d e i j) ≡ true
-unfolding findNumber
-find-rules ws d e i j h = unbroken (findRules ws d e i j) (unfold allOf findRules rowRules in refl) h
-
-pub finds : (ws : List ℕ) (d e i j : ℕ) → findNumber ws d e i j ≡ 0 → Finds ws d e i j
-unfolding findRules rowRules allOf
-finds ws d e i j h =
-    let r = find-rules ws d e i j h in
-    let n : not (ltb (dim ws) d || ltb (dim ws) e) ≡ true = search (left, right) depth 9 in
-    let o = neither (ltb (dim ws) d) (ltb (dim ws) e) n in
-    let q : not (not (held ws (key d e))) ≡ true = search (left, right) depth 9 in
-    record {
-      first = ltb-false (dim ws) d (o .0);
-      second = ltb-false (dim ws) e (o .1);
-      there = not-false _ (not-true _ q);
-      below = let x : leb (count ws d) i ≡ false = search (left, right, not-true) depth 9 in leb-false (count ws d) i x;
-      within = let x : leb (count ws e) j ≡ false = search (left, right, not-true) depth 9 in leb-false (count ws e) j x;
-    }
-
 -- Find's number is Row's, and 19 where Row accepts and j is N_e or more
 pub find-is : (ws : List ℕ) (d e i j : ℕ) → findNumber ws d e i j ≡ cond (eqb (rowNumber ws d e i) 0) (cond (leb (count ws e) j) 19 0) (rowNumber ws d e i)
 unfolding findNumber findRules rowNumber
 find-is ws d e i j = first-append (rowRules ws d e i) _ (unfold allOf rowRules in refl) ∙ unfold firstBroken in refl
+
+-- an accepted Find has an accepted row, and j is below N_e
+pub finds : (ws : List ℕ) (d e i j : ℕ) → findNumber ws d e i j ≡ 0 → (rowNumber ws d e i ≡ 0) × (j < count ws e)
+finds ws d e i j h = go (eqb (rowNumber ws d e i) 0) refl (leb (count ws e) j) refl (sym (find-is ws d e i j) ∙ h)
+  where
+    go : (a : Bool) → eqb (rowNumber ws d e i) 0 ≡ a → (b : Bool) → leb (count ws e) j ≡ b → cond a (cond b 19 0) (rowNumber ws d e i) ≡ 0 → (rowNumber ws d e i ≡ 0) × (j < count ws e)
+    go true p true q z = absurd (omega arith)
+    go true p false q z = (eqb-true _ _ p, leb-false _ _ q)
+    go false p b q z = absurd (eqb-false _ _ p z)
 
 -- the numbers that Find gives
 pub find-given : (ws : List ℕ) (d e i j : ℕ) → In (findNumber ws d e i j) (0 ∷ 10 ∷ 12 ∷ 16 ∷ 17 ∷ 11 ∷ 19 ∷ [])

@@ -20,7 +20,7 @@ use Rattle.rules.proofs.Searched.{place-in, first-passes, first-before,
 use Rattle.rules.proofs.Needs.{key-div}
 use Rattle.rules.proofs.FrameRule.{framed}
 use Rattle.rules.proofs.RowRule.{row-ascends}
-use Rattle.rules.proofs.Accepted.{finds, find-accepted}
+use Rattle.rules.proofs.Accepted.{rowed, finds, find-accepted}
 
 -- two places of a row that ascends
 pub ascends-two : (xs : List ℕ) (i j : ℕ) → ascends xs ≡ true → i < j → j < length xs → getD xs i 0 < getD xs j 0
@@ -128,7 +128,7 @@ unread j r s n h = go (eq-or-lt-of-le (leading-most j r))
 pub find-has : (ws : List ℕ) → frameRight ws ≡ true → rowsRight ws ≡ true → (d e i j : ℕ) → findNumber ws d e i j ≡ 0
     → findFound ws d e i j ≡ has j (rowOf ws (key d e) i)
 find-has ws g r d e i j z =
-    let a = finds ws d e i j z in
+    let a = rowed ws d e i (finds ws d e i j z .0) in
     let f = framed ws g in
     let l : i < count ws (key d e / 4) = rw (key-div d e (omega (arith, f .high))) (a .below) in
     find-accepted ws d e i j z .0 ∙ found-has j (rowOf ws (key d e) i) (row-ascends ws f r (key d e) (a .there) i l)

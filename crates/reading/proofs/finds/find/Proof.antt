@@ -7,7 +7,7 @@ use borrow.Author.Needs.{needs}
 use Rattle.rules.specs.Book.{key, rowOf}
 use Rattle.rules.specs.Calls.{foundIn, readIn, findNumber, findFound, findRead}
 use Rattle.rules.proofs.AnyWords.{dim-most}
-use Rattle.rules.proofs.Accepted.{finds, find-given, find-accepted, find-refused}
+use Rattle.rules.proofs.Accepted.{rowed, finds, find-given, find-accepted, find-refused}
 use Rattle.reading.specs.declared.answers.Found.{Found}
 use Rattle.reading.specs.Answers.{foundNumber, foundYes, foundRead}
 use Rattle.reading.proofs.Alike.{found-bare}
@@ -24,8 +24,8 @@ key-requires : tie.Need-key-requires
 key-requires c κs =
     let a = c .before .before .before .args in
     let m = dim-most (a .book .now) (λ i. c .before .before .shared-slice-known .given i .fits) in
-    let f = finds (a .book .now) (a .d) (a .e) (a .i) (a .j) (accepted c) in
-    (omega (arith, m, f .first), omega (arith, m, f .second))
+    let r = rowed (a .book .now) (a .d) (a .e) (a .i) (finds (a .book .now) (a .d) (a .e) (a .i) (a .j) (accepted c) .0) in
+    (omega (arith, m, r .first), omega (arith, m, r .second))
 
 row-requires : tie.Need-row-requires
 row-requires c κs = search needs
