@@ -3,7 +3,7 @@ use mathlib.Core.Path.{_≡_, refl, sym, ap, _∙_}
 use mathlib.Core.Bool.{Bool, true, false, _||_, false≢true}
 use mathlib.Core.Logic.{_⊎_, inl, inr}
 use mathlib.Core.List.{List, [], _∷_}
-use Prim.Native.Nat.{ℕ, zero, suc, _+_, _/_, _≤_, _<_}
+use Prim.Native.Nat.{ℕ, _+_, _/_, _≤_, _<_}
 use native.Mathlib.Nat.{add-zero, eq-or-lt-of-le}
 use native.Mathlib.Omega.{arith}
 use lib.ListN.{length, getD}
@@ -14,21 +14,13 @@ use Rattle.rules.specs.Lists.{anyOf, has, ascends}
 use Rattle.rules.specs.Book.{count, key, rowOf, frameRight, rowsRight}
 use Rattle.rules.specs.Calls.{leading, following, foundIn, readIn, findNumber, findFound}
 use Rattle.rules.proofs.Tests.{agree, getD-in, has-of, has-is}
-use Rattle.rules.proofs.Ascending.{tail-up, above}
+use Rattle.rules.proofs.Ascending.{ascends-two}
 use Rattle.rules.proofs.Compared.{lt-or-le}
 use Rattle.rules.proofs.Searched.{place-in, first-passes, first-before, first-most, first-is}
 use Rattle.rules.proofs.Needs.{key-div}
 use Rattle.rules.proofs.FrameRule.{framed}
 use Rattle.rules.proofs.RowRule.{row-ascends}
 use Rattle.rules.proofs.Accepted.{rowed, finds, find-accepted}
-
--- two places of a row that ascends
-pub ascends-two : (xs : List ℕ) (i j : ℕ) → ascends xs ≡ true → i < j → j < length xs → getD xs i 0 < getD xs j 0
-ascends-two [] i j a l h = absurd (omega arith)
-ascends-two (x ∷ xs) zero zero a l h = absurd (omega arith)
-ascends-two (x ∷ xs) zero (suc j) a l h = above x xs a (getD xs j 0) (getD-in xs j 0 (omega arith))
-ascends-two (x ∷ xs) (suc i) zero a l h = absurd (omega arith)
-ascends-two (x ∷ xs) (suc i) (suc j) a l h = ascends-two xs i j (tail-up x xs a) (omega arith) (omega arith)
 
 module _ (j : ℕ) (r : List ℕ) where
   -- ---- where the search stops
