@@ -140,19 +140,24 @@ static void line(const Named &m, const std::string &what, size_t words, double o
     std::fflush(stdout);
 }
 
-// Asks for all of these in order, on a book that holds what stands in `before`, lent the words it ends up using and `spare` more.
+// Asks for all of these in order, one by one or by one list, on a book that holds what stands in `before`, lent the words it ends up using and `spare` more.
 static void compare(const Named &m, const std::string &what, const std::vector<std::pair<unsigned, unsigned>> &before,
-                    const std::vector<std::pair<unsigned, unsigned>> &asked, size_t spare, int times) {
+                    const std::vector<std::pair<unsigned, unsigned>> &asked, size_t spare, int times, bool by_list = false) {
     auto all = before;
     all.insert(all.end(), asked.begin(), asked.end());
     size_t room = book_with(m, all)[4] + spare;
     auto book = book_with(m, before, room);
     plain::Book plainly = loaded(m);
     for (auto a : before) must(plain::ask(plainly, a.first, a.second), "plain ask");
+    std::vector<uint32_t> pairs, answers(asked.size());
+    for (auto a : asked) pairs.push_back(a.first), pairs.push_back(a.second);
+    auto accepted = [&] { return std::count(answers.begin(), answers.end(), 0u) == long(answers.size()); };
     auto ask = [&](std::vector<uint32_t> &b) {
+        if (by_list) return must(daybook_ask_list(b.data(), room, pairs.data(), pairs.size(), answers.data(), answers.size()) == 0 && accepted(), "list");
         for (auto a : asked) must(daybook_ask(b.data(), room, a.first, a.second) == 0, "ask");
     };
     auto ask_plainly = [&](plain::Book &b) {
+        if (by_list) return must(plain::ask_list(b, pairs, answers) && accepted(), "plain list");
         for (auto a : asked) must(plain::ask(b, a.first, a.second), "plain ask");
     };
     line(m, what, room, best([&] { return book; }, ask, times), best([&] { return plainly; }, ask_plainly, times));
@@ -241,6 +246,14 @@ int main() {
         compare_files(m);
         for (auto r : relations(m)) compare(m, std::to_string(r.first) + "->" + std::to_string(r.second), plain::needs(m.dim, r.first, r.second), {r}, 0, times);
         compare(m, "all", {}, relations(m), 0, times);
+    }
+    // all relations, the one that is held after a load among them, by one ask after another and by one list
+    for (const Named &m : meshes) {
+        auto every = relations(m);
+        every.push_back({m.dim, 0});
+        std::sort(every.begin(), every.end());
+        compare(m, "asks", {}, every, 0, m.level ? 5 : 3);
+        compare(m, "list", {}, every, 0, m.level ? 5 : 3, true);
     }
     // from a sixteenth of the size to the whole
     for (unsigned n : {11, 22, 45}) compare(sheet(n), "all", {}, relations(sheet(n)), 0, 5);

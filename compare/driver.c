@@ -5,6 +5,7 @@
  *   'B' n, n words          the book from now on
  *   'L' n, n bytes          load that file
  *   'M' d e, 'A' d e        make, ask
+ *   'Q' n m, n + m words    a list of asks: n numbers of pairs, m answers as they are before it
  *   'R' d e i, 'F' d e i j  row, find
  *   'T' d e                 every row of d→e until one is refused; behind the answer, for each row, its length and its words
  *   'W' n, n bytes          write to a buffer with these bytes
@@ -13,6 +14,7 @@
  *
  * An answer: the call's number (4 bytes), two out places (8 bytes each; they hold OUT before the call),
  * checksums of the book and of the byte buffer (4 bytes each), and 1 where every guard still stands (4 bytes).
+ * For a list of asks the byte buffer is the answers, and the first out place a checksum of the pairs.
  */
 #include "daybook.h"
 #include <stdio.h>
@@ -73,7 +75,7 @@ int main(void) {
     int call;
     crc_table();
     while ((call = getchar()) != EOF) {
-        struct lent bytes = lend(0);
+        struct lent bytes = lend(0), pairs = lend(0);
         uint64_t out[2] = {OUT, OUT};
         uint32_t given = 0, d = 0, e = 0, i;
         uint32_t *words = (uint32_t *)at(book);
@@ -99,6 +101,14 @@ int main(void) {
         case 'A':
             d = number(), e = number();
             given = daybook_ask(words, n, d, e);
+            break;
+        case 'Q':
+            d = number(), e = number();
+            free(pairs.whole), free(bytes.whole);
+            pairs = lend((size_t)d * 4), bytes = lend((size_t)e * 4);
+            get(at(pairs), pairs.size), get(at(bytes), bytes.size);
+            given = daybook_ask_list(words, n, (uint32_t *)at(pairs), d, (uint32_t *)at(bytes), e);
+            out[0] = crc(at(pairs), pairs.size);
             break;
         case 'R': {
             size_t start, count;
@@ -146,7 +156,7 @@ int main(void) {
         default:
             return 2;
         }
-        uint32_t rest[3] = {crc(at(book), book.size), crc(at(bytes), bytes.size), stands(book) & stands(bytes)};
+        uint32_t rest[3] = {crc(at(book), book.size), crc(at(bytes), bytes.size), stands(book) & stands(bytes) & stands(pairs)};
         fwrite(&given, 4, 1, stdout);
         fwrite(out, 8, 2, stdout);
         fwrite(rest, 4, 3, stdout);
@@ -159,6 +169,7 @@ int main(void) {
         }
         fflush(stdout);
         free(bytes.whole);
+        free(pairs.whole);
     }
     free(book.whole);
     return 0;

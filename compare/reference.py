@@ -272,6 +272,15 @@ def ask(book, d, e):
     return settle(state, book)
 
 
+def ask_list(book, pairs, answers):
+    """One ask after another; each one's number goes in its place among the answers."""
+    if len(pairs) % 2 == 1 or len(pairs) // 2 > 16 or len(answers) != len(pairs) // 2:
+        return 20
+    for place in range(len(answers)):
+        answers[place] = ask(book, pairs[2 * place], pairs[2 * place + 1])
+    return 0
+
+
 def row(book, d, e, i):
     """(number, start, count), the last two 0 on a refusal"""
     frame = Frame.of(book)

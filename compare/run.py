@@ -77,8 +77,12 @@ class Library:
         return number, out
 
 
+def packed(words):
+    return struct.pack("<%dI" % len(words), *words)
+
+
 def checksum(words):
-    return zlib.crc32(struct.pack("<%dI" % len(words), *words))
+    return zlib.crc32(packed(words))
 
 
 class Runs:
@@ -103,10 +107,13 @@ class Runs:
         wanted = (number, first, second, self.sum, zlib.crc32(data), 1)
         if got != wanted:
             self.fail("%s %s" % (name, what), got, wanted)
-        row = self.table.setdefault(name, {})
-        row[number] = row.get(number, 0) + 1
+        self.count(name, number)
         self.left -= 1
         self.made += 1
+
+    def count(self, name, number):
+        row = self.table.setdefault(name, {})
+        row[number] = row.get(number, 0) + 1
 
     def load(self, data):
         self.past, self.sum = list(self.book), None
@@ -121,6 +128,17 @@ class Runs:
         number = call(self.book, d, e)
         self.check(name, (b"M" if name == "make" else b"A") + struct.pack("<II", d, e), number, OUT, OUT, what=(d, e))
         return number
+
+    def ask_list(self, pairs, answers):
+        """The list's number, and the answers after it."""
+        self.past, self.sum = list(self.book), None
+        text = b"Q" + struct.pack("<II", len(pairs), len(answers)) + packed(pairs) + packed(answers)
+        after = list(answers)
+        number = rules.ask_list(self.book, pairs, after)
+        self.check("ask_list", text, number, checksum(pairs), OUT, packed(after), (pairs, answers))
+        for answer in after if number == 0 else []:
+            self.count("its answers", answer)
+        return number, after
 
     def row(self, d, e, i):
         self.past = self.book
@@ -193,10 +211,29 @@ class Runs:
         else:
             self.held_count()
 
+    def some_asks(self):
+        """A list of asks, mostly one that is accepted, or one with a pair or a place too many or too few."""
+        rng = self.rng
+        count = rng.choice((0, 1, 2, 3, 5, 9, 15, 16, 17))
+        pairs = [self.dimension() for _ in range(2 * count)]
+        answers = [rng.randrange(1 << 32) for _ in range(count)]
+        way = rng.random()
+        if way < 0.1:
+            pairs.append(self.dimension())
+        elif way < 0.15:
+            answers.append(0)
+        elif way < 0.2:
+            answers = answers[1:]
+        self.ask_list(pairs, answers)
+
     def step(self, made):
         rng = self.rng
         if rng.random() < made:
-            self.relation(rng.choice(("make", "ask")), self.dimension(), self.dimension())
+            way = rng.choice(("make", "ask", "list"))
+            if way == "list":
+                self.some_asks()
+            else:
+                self.relation(way, self.dimension(), self.dimension())
         else:
             self.look()
 
@@ -254,11 +291,21 @@ class Runs:
                         self.find(d, e, 0, j)
             self.euler()
             self.held_count()
+        self.lists_of_full_size()
         many = bytearray(rules.file_bytes(*whole))
         for at in (0, 2):
             more = bytearray(many)
             more[at] |= 0x3F if at == 0 else 0xFF
             self.load(bytes(more))
+
+    def lists_of_full_size(self):
+        """All relations of two meshes of bench/ by one list: with room for all, and with room for some."""
+        for mesh in (meshes.sheet(46, 46), meshes.box(8, 8, 10)):
+            pairs = [x for d in range(mesh[0] + 1) for e in range(mesh[0] + 1) for x in (d, e)]
+            for room in (1500000, 100000):
+                self.use([0xFFFFFFFF] * room)
+                self.load(rules.file_bytes(*mesh))
+                self.ask_list(pairs, [0xFFFFFFFF] * (len(pairs) // 2))
 
     def demand(self, what, got, wanted):
         if got != wanted:
@@ -275,7 +322,7 @@ class Runs:
             out.append(self.book[start : start + count])
 
     def examples(self):
-        """Examples by hand, whose numbers stand here as they were worked out: 10 and 11 of the paper, and searches."""
+        """Examples by hand, whose numbers stand here as they were worked out: 10 and 11 of the paper, searches, and lists of asks."""
         t = rules.file_bytes(2, 4, [[0, 1, 3], [1, 2, 3]])
         for room, number in ((54, 0), (53, 13)):
             self.use([7] * room)
@@ -293,6 +340,7 @@ class Runs:
         self.euler()
         self.demand("Euler number", rules.euler(self.book), (0, 1))
         self.searches(t)
+        self.lists(t)
 
     def searches(self, t):
         """Row 1 of 0→1 of T is 0 2 3, searched; each refusal; and the row with its words changed, so that it does not ascend."""
@@ -312,6 +360,22 @@ class Runs:
         self.demand("search between offsets that fall", self.find(0, 1, 1, 5), (11, False, 0))
         self.use([0] + right[1:])
         self.demand("search in a broken frame", self.find(9, 9, 9, 9), (10, False, 0))
+
+    def lists(self, t):
+        """2→1, 0→0, 2→1 of T in 54 words; lists of no, 16 and 17 pairs, of half a pair, and with a place too few or too many; broken books."""
+        self.use([7] * 54)
+        self.load(t)
+        self.demand("a list in 54 words", self.ask_list([2, 1, 0, 0, 2, 1], [9, 9, 9]), (0, [0, 13, 0]))
+        right = list(self.book)
+        self.demand("no pairs", self.ask_list([], []), (0, []))
+        self.demand("16 pairs", self.ask_list([2, 1] * 16, [9] * 16), (0, [0] * 16))
+        self.demand("its own refusals", self.ask_list([3, 0, 0, 3, 2, 2, 1, 0], [9] * 4), (0, [12, 12, 13, 0]))
+        for broken, number in ((right, 0), ([0] + right[1:], 10), (right[:-1] + [9], 11), ([], 10)):
+            self.use(broken)
+            for pairs, places in (([2, 1] * 17, 17), ([2, 1, 2], 1), ([2, 1, 2], 2), ([2], 0), ([2, 1], 0), ([2, 1], 2), ([], 1)):
+                self.demand("%d numbers, %d places" % (len(pairs), places), self.ask_list(pairs, [9] * places), (20, [9] * places))
+            self.demand("each answer %d" % number, self.ask_list([2, 1, 9, 9], [9] * 2), (0, [number, number or 12]))
+            self.demand("no pairs at all", self.ask_list([], []), (0, []))
 
     def run(self, full):
         self.examples()
@@ -334,7 +398,7 @@ def main():
     runs = Runs(given.seed, Library(built()), given.calls)
     runs.run(given.full)
     for name, row in runs.table.items():
-        print("%-10s %s" % (name, "  ".join("%d: %d" % (n, row[n]) for n in sorted(row))))
+        print("%-11s %s" % (name, "  ".join("%d: %d" % (n, row[n]) for n in sorted(row))))
     print("compare: %d calls in %d sequences agree, seed %d" % (runs.made, runs.sequences, given.seed))
 
 

@@ -29,12 +29,12 @@ static struct row row(uint32_t d, uint32_t e, uint32_t i) {
     return r;
 }
 
-/* Loads the file and asks for what the walk needs: the edges of a cell, the cells at an edge, and the cells around a cell. */
+/* Loads the file and asks for what the walk needs by one list: the edges of a cell, the cells at an edge, and the cells around a cell. */
 static uint32_t prepare(size_t size) {
-    uint32_t cell, number = daybook_load(file, size, book, words, &cell);
-    if (!number) number = daybook_ask(book, words, 2, 1);
-    if (!number) number = daybook_ask(book, words, 1, 2);
-    if (!number) number = daybook_ask(book, words, 2, 2);
+    static const uint32_t pairs[] = {2, 1, 1, 2, 2, 2};
+    uint32_t answers[3] = {0, 0, 0}, cell, number = daybook_load(file, size, book, words, &cell);
+    if (!number) number = daybook_ask_list(book, words, pairs, 6, answers, 3);
+    for (int k = 0; k < 3 && !number; k++) number = answers[k];
     return number;
 }
 

@@ -28,8 +28,8 @@
  * applies, in the order given at the call. A refusal alters no word or byte that you lent.
  * What an out pointer points to is written only where the text says so, and else left alone.
  *
- * STACK. daybook_make and daybook_ask need up to 512 KiB of stack (417 KiB were measured, by painting
- * it), the other calls less than 16 KiB.
+ * STACK. daybook_make, daybook_ask and daybook_ask_list need up to 512 KiB of stack (417 KiB were
+ * measured, by painting it), the other calls less than 16 KiB.
  *
  * OWNERSHIP. Nothing is allocated, nothing is global, nothing is kept after a call returns: the
  * book, the file and the buffers stay yours. Calls on different books may run side by side in
@@ -69,8 +69,12 @@ enum {
     DAYBOOK_NOT_HELD = 16,         /* the relation is not held */
     DAYBOOK_NO_SUCH_ENTITY = 17,   /* i is N_d or more */
     DAYBOOK_BUFFER_TOO_SHORT = 18, /* the byte buffer is shorter than the file */
-    DAYBOOK_NO_SUCH_INDEX = 19     /* j is N_e or more */
+    DAYBOOK_NO_SUCH_INDEX = 19,    /* j is N_e or more */
+    DAYBOOK_PAIRS_OFF = 20         /* half a pair, more than DAYBOOK_MOST_PAIRS pairs, or answers that have not one place a pair */
 };
+
+/* The most pairs that daybook_ask_list takes. */
+#define DAYBOOK_MOST_PAIRS 16
 
 /* A number of 32-bit words, as a uint64_t, that is enough for a mesh of dimension D (1, 2 or 3) with
  * N0 vertices and ND cells and for all its relations.
@@ -108,6 +112,14 @@ uint32_t daybook_make(uint32_t *book, size_t book_len, uint32_t d, uint32_t e);
 /* Makes the relation d -> e and, as far as missing, everything that it is made from, or nothing at
  * all. A relation that is held already is accepted, and no word changes. Refusals: 10, 11, 12, 13. */
 uint32_t daybook_ask(uint32_t *book, size_t book_len, uint32_t d, uint32_t e);
+
+/* Asks for several relations, one after another: book and answers are those of daybook_ask for each in turn.
+ * pairs has two numbers for each, its d and its e, and answers gets one number for each in its place: 0 where
+ * the ask was accepted, else its refusal, one of 10, 11, 12, 13. A refused ask does not stop the next, and the
+ * call is accepted whatever its answers are; no pairs at all are accepted too. The book is checked once for
+ * the whole list, so this takes less time than as many calls of daybook_ask.
+ * Refusal: 20, before everything else, also where the book is broken; then the answers are left alone too. */
+uint32_t daybook_ask_list(uint32_t *book, size_t book_len, const uint32_t *pairs, size_t pairs_len, uint32_t *answers, size_t answers_len);
 
 /* Row i of d -> e: where accepted it is book[*start .. *start + *count], which may be empty.
  * Refusals: 10, 12, 16, 17, and 11 where the row's own two offsets are not first <= second <= last.

@@ -1,7 +1,8 @@
 //! Safe calls of daybook: a day's mesh of triangles or tetrahedra in a book of lent words, and who touches whom in it.
 //!
 //! A book is a slice of `u32` that you lend to each call; `include/daybook.h` says what stands in it. Nothing is
-//! allocated and nothing is kept. A refusal alters no word and no byte. `make` and `ask` need up to 512 KiB of stack.
+//! allocated and nothing is kept. A refusal alters no word and no byte. `make`, `ask` and `ask_list` need up to
+//! 512 KiB of stack.
 //!
 //! ```no_run
 //! # let file: Vec<u8> = Vec::new();
@@ -19,6 +20,7 @@ mod c {
         pub fn daybook_load(file: *const u8, file_len: usize, book: *mut u32, book_len: usize, cell: *mut u32) -> u32;
         pub fn daybook_make(book: *mut u32, book_len: usize, d: u32, e: u32) -> u32;
         pub fn daybook_ask(book: *mut u32, book_len: usize, d: u32, e: u32) -> u32;
+        pub fn daybook_ask_list(book: *mut u32, book_len: usize, pairs: *const u32, pairs_len: usize, answers: *mut u32, answers_len: usize) -> u32;
         pub fn daybook_row(book: *const u32, book_len: usize, d: u32, e: u32, i: u32, start: *mut usize, count: *mut usize) -> u32;
         pub fn daybook_find(book: *const u32, book_len: usize, d: u32, e: u32, i: u32, j: u32, yes: *mut u32, read: *mut usize) -> u32;
         pub fn daybook_write(book: *const u32, book_len: usize, bytes: *mut u8, bytes_len: usize, length: *mut usize) -> u32;
@@ -68,10 +70,12 @@ pub enum Refusal {
     BufferTooShort,
     /// 19: j is N_e or more.
     NoSuchIndex,
+    /// 20: more than `MOST_PAIRS` pairs, or answers that have not one place a pair.
+    PairsOff,
 }
 
 impl Refusal {
-    /// The paper's number of this refusal, 1 to 19.
+    /// The paper's number of this refusal, 1 to 20.
     pub fn number(self) -> u32 {
         match self {
             Refusal::FileTooShort => 1,
@@ -93,6 +97,7 @@ impl Refusal {
             Refusal::NoSuchEntity => 17,
             Refusal::BufferTooShort => 18,
             Refusal::NoSuchIndex => 19,
+            Refusal::PairsOff => 20,
         }
     }
 }
@@ -131,7 +136,8 @@ fn answer<T>(number: u32, cell: u32, value: T) -> Result<T, Refusal> {
         17 => Refusal::NoSuchEntity,
         18 => Refusal::BufferTooShort,
         19 => Refusal::NoSuchIndex,
-        _ => unreachable!("the library gives 0 to 19"),
+        20 => Refusal::PairsOff,
+        _ => unreachable!("the library gives 0 to 20"),
     })
 }
 
@@ -155,6 +161,36 @@ pub fn ask(book: &mut [u32], d: u32, e: u32) -> Result<(), Refusal> {
     // SAFETY: as in `load`.
     let number = unsafe { c::daybook_ask(book.as_mut_ptr(), book.len(), d, e) };
     answer(number, 0, ())
+}
+
+/// The most pairs that `ask_list` takes.
+pub const MOST_PAIRS: usize = 16;
+
+/// Asks for each pair (d, e) in turn, as `ask` does, and writes what came of it in its place among the answers; a refused ask
+/// does not stop the next, and the list is accepted all the same. The book is checked once, so a list takes less time than its
+/// asks one by one. Where the list itself is refused, with `PairsOff`, neither the book nor the answers are altered.
+///
+/// ```no_run
+/// # let mut book = vec![0; 500];
+/// let mut answers = [Ok(()); 3];
+/// daybook::ask_list(&mut book, &[(2, 1), (1, 2), (2, 2)], &mut answers)?;
+/// assert_eq!(answers, [Ok(()); 3]);
+/// # Ok::<(), daybook::Refusal>(())
+/// ```
+pub fn ask_list(book: &mut [u32], pairs: &[(u32, u32)], answers: &mut [Result<(), Refusal>]) -> Result<(), Refusal> {
+    // One pair or answer more than is allowed stands for any number more: the library refuses it.
+    let (mut flat, mut numbers) = ([0; 2 * (MOST_PAIRS + 1)], [0; MOST_PAIRS + 1]);
+    for (place, &(d, e)) in flat.chunks_exact_mut(2).zip(pairs) {
+        place.copy_from_slice(&[d, e]);
+    }
+    let (asked, places) = (2 * pairs.len().min(MOST_PAIRS + 1), answers.len().min(MOST_PAIRS + 1));
+    // SAFETY: as in `load`; both lengths are at most the arrays'.
+    let number = unsafe { c::daybook_ask_list(book.as_mut_ptr(), book.len(), flat.as_ptr(), asked, numbers.as_mut_ptr(), places) };
+    answer(number, 0, ())?;
+    for (place, &number) in answers.iter_mut().zip(&numbers) {
+        *place = answer(number, 0, ());
+    }
+    Ok(())
 }
 
 /// Row i of d→e: the part of the book itself, ascending.

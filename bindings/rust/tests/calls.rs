@@ -1,5 +1,5 @@
 //! The paper's examples and each refusal, through the safe calls.
-use daybook::{Found, Refusal};
+use daybook::{Found, Refusal, MOST_PAIRS};
 
 /// The two triangles {0, 1, 3} and {1, 2, 3}.
 const T: [u8; 14] = [0x80, 0x04, 0x00, 0x10, 0x00, 0x00, 0x00, 0x40, 0x06, 0x00, 0x10, 0x01, 0x00, 0x0C];
@@ -30,6 +30,37 @@ fn all_relations_of_t_take_119_words() {
     assert_eq!(daybook::row(&book, 1, 2, 2), Ok(&[0, 1][..]));
     assert_eq!(ask_all(&mut loaded(118)), Err(Refusal::NoRoom));
     assert!(daybook::words_for_sheet(2, 4, 2) >= 119 && daybook::words_for_any(2, 4, 2) >= 119);
+}
+
+#[test]
+fn a_list_is_one_ask_after_another() {
+    let mut book = loaded(54);
+    let mut answers = [Err(Refusal::NotHeld); 3];
+    assert_eq!(daybook::ask_list(&mut book, &[(2, 1), (0, 0), (2, 1)], &mut answers), Ok(()));
+    assert_eq!(answers, [Ok(()), Err(Refusal::NoRoom), Ok(())]);
+    let mut alone = loaded(54);
+    assert_eq!(daybook::ask(&mut alone, 2, 1), Ok(()));
+    assert_eq!(book, alone);
+    assert_eq!(daybook::ask_list(&mut book, &[], &mut []), Ok(()));
+    assert_eq!(daybook::ask_list(&mut book, &[(2, 1); MOST_PAIRS], &mut [Err(Refusal::NotHeld); MOST_PAIRS]), Ok(()));
+    for broken in [Refusal::RowsBroken, Refusal::FrameBroken] {
+        book[if broken == Refusal::RowsBroken { 53 } else { 0 }] = 9;
+        assert_eq!(daybook::ask_list(&mut book, &[(9, 9), (2, 1)], &mut answers[..2]), Ok(()));
+        assert_eq!(answers, [Err(broken), Err(broken), Ok(())]);
+    }
+}
+
+#[test]
+fn a_list_that_is_refused_alters_nothing() {
+    let before = loaded(200);
+    let mut book = before.clone();
+    for (pairs, places) in [(0, 1), (1, 0), (1, 2), (MOST_PAIRS, MOST_PAIRS + 1), (MOST_PAIRS, MOST_PAIRS - 1), (MOST_PAIRS + 1, MOST_PAIRS + 1), (40, 40), (40, 16), (16, 40)] {
+        let mut answers = vec![Err(Refusal::NotHeld); places];
+        assert_eq!(daybook::ask_list(&mut book, &vec![(2, 1); pairs], &mut answers), Err(Refusal::PairsOff));
+        assert_eq!(answers, vec![Err(Refusal::NotHeld); places]);
+        assert_eq!(book, before);
+    }
+    assert_eq!(daybook::ask_list(&mut [], &[(2, 1)], &mut []), Err(Refusal::PairsOff));
 }
 
 #[test]
@@ -113,9 +144,9 @@ fn numbers_are_the_papers() {
         Refusal::FileTooShort, Refusal::NoDimension, Refusal::ManyVertices, Refusal::ManyCells, Refusal::SpareBits, Refusal::FileLength,
         Refusal::VertexOut(0), Refusal::VertexTwice(0), Refusal::BitsAfter, Refusal::FrameBroken, Refusal::RowsBroken, Refusal::DimensionOver,
         Refusal::NoRoom, Refusal::AlreadyHeld, Refusal::NeedMissing, Refusal::NotHeld, Refusal::NoSuchEntity, Refusal::BufferTooShort,
-        Refusal::NoSuchIndex,
+        Refusal::NoSuchIndex, Refusal::PairsOff,
     ];
-    assert!(all.iter().map(|r| r.number()).eq(1..=19));
+    assert!(all.iter().map(|r| r.number()).eq(1..=20));
 }
 
 #[test]

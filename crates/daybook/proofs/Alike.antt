@@ -4,12 +4,14 @@ use mathlib.Core.Bool.{cond}
 use mathlib.Core.List.{List}
 use Prim.Native.Nat.{ℕ}
 use lib.Dec.{eqb}
-use Rattle.rules.specs.Calls.{makeNumber, askNumber}
+use Rattle.rules.specs.Calls.{makeNumber, askNumber, listNumber}
 use Rattle.daybook.specs.declared.answers.Made.{Made}
 use Rattle.daybook.specs.declared.answers.Made.the-variants as makes
 use Rattle.daybook.specs.declared.answers.Asked.{Asked}
 use Rattle.daybook.specs.declared.answers.Asked.the-variants as asks
-use Rattle.daybook.specs.Answers.{madeNumber, askedNumber}
+use Rattle.daybook.specs.declared.answers.Listed.{Listed}
+use Rattle.daybook.specs.declared.answers.Listed.the-variants as lists
+use Rattle.daybook.specs.Answers.{madeNumber, askedNumber, listedNumber}
 
 -- ==== Make
 madeOf : ℕ → Made
@@ -45,3 +47,15 @@ asked-back asks.NoRoom = refl
 
 pub ask-determined : (ws : List ℕ) (d e : ℕ) (a b : Asked) → askedNumber a ≡ askNumber ws d e → askedNumber b ≡ askNumber ws d e → a ≡ b
 ask-determined ws d e a b n m = sym (asked-back a) ∙ ap askedOf (n ∙ sym m) ∙ asked-back b
+
+-- ==== "A list of asks"
+listedOf : ℕ → Listed
+listedOf n = cond (eqb n 0) lists.Accepted lists.PairsOff
+
+listed-back : (a : Listed) → listedOf (listedNumber a) ≡ a
+unfolding listedOf listedNumber
+listed-back lists.Accepted = refl
+listed-back lists.PairsOff = refl
+
+pub list-determined : (ps ns : List ℕ) (a b : Listed) → listedNumber a ≡ listNumber ps ns → listedNumber b ≡ listNumber ps ns → a ≡ b
+list-determined ps ns a b n m = sym (listed-back a) ∙ ap listedOf (n ∙ sym m) ∙ listed-back b

@@ -1,2 +1,4 @@
 pub mod Alike
+pub mod InTurn
+pub mod ListCases
 pub mod MakeCases

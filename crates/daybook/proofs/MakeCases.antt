@@ -29,10 +29,10 @@ ask-words : (ws : List ℕ) (d e n : ℕ) → askNumber ws d e ≡ suc n → ask
 unfolding askWords
 ask-words ws d e n q = rw (q, ne-eqb (suc n) 0 (λ z. omega arith))
 
-either : (a b : Bool) → (a ≡ true) → (a || b) ≡ true
+pub either : (a b : Bool) → (a ≡ true) → (a || b) ≡ true
 either a b h = rw h
 
-other : (a b : Bool) → (b ≡ true) → (a || b) ≡ true
+pub other : (a b : Bool) → (b ≡ true) → (a || b) ≡ true
 other true b h = refl
 other false b h = h
 

@@ -1,4 +1,6 @@
-// What Make and Ask answer: accepted, or one of their refusals.
+// What Make, Ask and a list of asks answer: accepted, or one of their refusals.
+ghost use mathlib.Core.Path.{_≡_};
+ghost use Rattle.daybook.specs.Answers.{askedNumber};
 
 // Make's answer.
 pub enum Made {
@@ -18,4 +20,23 @@ pub enum Asked {
     RowsBroken,
     DimensionOver,
     NoRoom,
+}
+
+// The number of Ask's answer.
+pub fn asked_number(answer: Asked) -> u32
+    ensures { λ r. ⌜ r ≡ askedNumber answer ⌝ }
+{
+    match answer {
+        Asked::Accepted => 0,
+        Asked::FrameBroken => 10,
+        Asked::RowsBroken => 11,
+        Asked::DimensionOver => 12,
+        Asked::NoRoom => 13,
+    }
+}
+
+// The answer of a list of asks.
+pub enum Listed {
+    Accepted,
+    PairsOff,
 }

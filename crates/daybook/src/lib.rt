@@ -23,9 +23,9 @@
 // | 7   | a vertex is N_0 or more; with the lowest such cell          | load                    |
 // | 8   | a cell names a vertex twice; with the lowest such cell      | load                    |
 // | 9   | bits after the last vertex are set                          | load                    |
-// | 10  | the frame rule is broken                                    | all but load            |
-// | 11  | the row rule is broken; for row and find, the row's own     | all but load, held_count |
-// |     | offsets alone                                               |                         |
+// | 10  | the frame rule is broken                                    | all but load, ask_list  |
+// | 11  | the row rule is broken; for row and find, the row's own     | all but load, ask_list, |
+// |     | offsets alone                                               | held_count              |
 // | 12  | d or e is over D                                            | make, ask, row, find    |
 // | 13  | the used length afterwards would pass the book's length     | load, make, ask         |
 // | 14  | the relation is held already                                | make                    |
@@ -34,13 +34,20 @@
 // | 17  | i is N_d or more                                            | row, find               |
 // | 18  | the byte buffer is shorter than the file                    | write                   |
 // | 19  | j is N_e or more                                            | find                    |
+// | 20  | half a pair, over 16 pairs, or not one place a pair         | ask_list                |
+//
+// ask_list gives no other number as a call: what each of its asks is refused for stands among its answers.
 mod answers;
 mod asks;
+mod lists;
 mod makes;
 
 pub use answers::Asked;
+pub use answers::Listed;
 pub use answers::Made;
+pub use answers::asked_number;
 pub use asks::ask;
+pub use lists::ask_list;
 pub use loading::Loaded;
 pub use loading::load;
 pub use makes::make;

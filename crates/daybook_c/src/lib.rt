@@ -5,12 +5,12 @@ ghost use Prim.Native.Nat.{_+_, _<_};
 ghost use lib.ListN.{length};
 ghost use lib.Dec.{eqb};
 ghost use Rattle.rules.specs.Book.{key, rowStart, rowOf};
-ghost use Rattle.rules.specs.Calls.{faultCell, loadNumber, loadWords, makeNumber, makeWords, askNumber, askWords, rowNumber, findNumber, findFound, findRead, writeNumber, writeLength, writeBytes, eulerNumber, eulerOf, heldNumber, heldCount};
+ghost use Rattle.rules.specs.Calls.{faultCell, loadNumber, loadWords, makeNumber, makeWords, askNumber, askWords, listNumber, listAnswers, listWords, rowNumber, findNumber, findFound, findRead, writeNumber, writeLength, writeBytes, eulerNumber, eulerOf, heldNumber, heldCount};
 use book::Place;
-use daybook::Asked;
 use daybook::Counted;
 use daybook::EulerNumber;
 use daybook::Found;
+use daybook::Listed;
 use daybook::Loaded;
 use daybook::Made;
 use daybook::Written;
@@ -66,12 +66,19 @@ pub extern "C" fn daybook_ask(book: &mut [u32], d: u32, e: u32) -> u32
     ensures number { λ r. ⌜ r ≡ askNumber (now (book .entry)) d e ⌝ }
     ensures words { λ r. ⌜ now (book .exit) ≡ askWords (now (book .entry)) d e ⌝ }
 {
-    match daybook::ask(book, d, e) {
-        Asked::Accepted => 0,
-        Asked::FrameBroken => 10,
-        Asked::RowsBroken => 11,
-        Asked::DimensionOver => 12,
-        Asked::NoRoom => 13,
+    daybook::asked_number(daybook::ask(book, d, e))
+}
+
+// Asks for each d, e pair in turn and writes each ask's number in its place; a refused ask does not stop the next.
+#[no_mangle]
+pub extern "C" fn daybook_ask_list(book: &mut [u32], pairs: &[u32], answers: &mut [u32]) -> u32
+    ensures number { λ r. ⌜ r ≡ listNumber (now (pairs .entry)) (now (answers .entry)) ⌝ }
+    ensures answers { λ r. ⌜ now (answers .exit) ≡ listAnswers (now (book .entry)) (now (pairs .entry)) (now (answers .entry)) ⌝ }
+    ensures words { λ r. ⌜ now (book .exit) ≡ listWords (now (book .entry)) (now (pairs .entry)) (now (answers .entry)) ⌝ }
+{
+    match daybook::ask_list(book, pairs, answers) {
+        Listed::Accepted => 0,
+        Listed::PairsOff => 20,
     }
 }
 

@@ -4,3 +4,4 @@ pub mod Planned
 pub mod RoundTrip
 pub mod Lying
 pub mod Run
+pub mod Listed

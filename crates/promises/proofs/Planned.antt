@@ -10,13 +10,14 @@ use borrow.Author.Tests.{ltb-false, leb-false, le-leb, eqb-true}
 use Rattle.rules.specs.Lists.{allOf, filled}
 use Rattle.rules.specs.File.{lengthOf}
 use Rattle.rules.specs.Book.{dim, count, key, named, held, offset, total, needs, frameRight, rowsRight}
-use Rattle.rules.specs.Calls.{rule, firstBroken, added, through, withKey, asked, makeRules, makeNumber, askRules, askNumber, rowRules, rowNumber, findNumber, writeLength, writeRules, writeNumber, eulerRules, eulerNumber, heldRules, heldNumber}
+use Rattle.rules.specs.Calls.{rule, firstBroken, added, through, withKey, asked, makeRules, makeNumber, askRules, askNumber, askWords, rowRules, rowNumber, findNumber, writeLength, writeRules, writeNumber, eulerRules, eulerNumber, heldRules, heldNumber}
 use Rattle.rules.specs.Truth.{Mesh, number, trueBook}
 use Rattle.rules.specs.Sequence.{Reached}
 use Rattle.rules.proofs.Tests.{all-weaker}
 use Rattle.rules.proofs.Masks.{masks-equal}
 use Rattle.rules.proofs.Bits.{write-length}
-use Rattle.rules.proofs.Accepted.{rowed, find-is}
+use Rattle.rules.proofs.Accepted.{ask-is, rowed, find-is}
+use Rattle.rules.proofs.LoadedWords.{getD-filled}
 use Rattle.rules.proofs.FrameRule.{framed}
 use Rattle.rules.proofs.RowRule.{offset-rises, offset-total}
 use Rattle.rules.proofs.Needs.{key-div, key-again}
@@ -26,7 +27,7 @@ use Rattle.rules.proofs.Closed.{Closed}
 use Rattle.rules.proofs.TrueBook.{book-mask, book-dim, book-count, true-take, count-first}
 use Rattle.rules.proofs.TrueMake.{true-added}
 use Rattle.rules.proofs.TrueAsk.{true-asked}
-use Rattle.promises.specs.Plan.{wordsFor, maskThrough, maskWith, makePlan, askPlan, rowPlan, findPlan, writePlan, eulerPlan}
+use Rattle.promises.specs.Plan.{wordsFor, maskThrough, maskWith, makePlan, askPlan, maskAfter, rowPlan, findPlan, writePlan, eulerPlan}
 use Rattle.promises.specs.Demand.{Holds, Planned}
 use Rattle.promises.proofs.Kept.{Kept, kept-held, kept-dim, kept-mask, kept-frame, kept-rows, reached-kept}
 use Rattle.promises.proofs.DemandThree.{second-count}
@@ -120,17 +121,23 @@ module _ (m : Mesh) (ws : List ℕ) (k : Kept m ws) where
       go false p false q false r true s = rw (made-words d e (ltb-false _ _ p) (ltb-false _ _ q) r s)
 
   -- Ask
+  asked-mask : (d e : ℕ) → getD (asked ws d e) 1 0 ≡ maskWith 6 (m .dims) (k .mask) (key d e)
+  asked-mask d e =
+      let u : take (getD ws 4 0) ws ≡ trueBook 0 m (k .mask) = ap (λ (w : List ℕ). take (getD w 4 0) w) (k .words) ∙ true-take m (k .mask) (length ws) in
+      ap (λ (v : List ℕ). getD v 1 0) (asked-is ws d e)
+      ∙ key-mask 6 (take (getD ws 4 0) ws) (key d e) .mask-is
+      ∙ rw (u, book-dim m (k .formed) (k .mask) 0, book-mask m (k .mask) 0)
+
   asked-words : (d e : ℕ) → d ≤ m .dims → e ≤ m .dims → length (asked ws d e) ≡ wordsFor m (maskWith 6 (m .dims) (k .mask) (key d e))
   unfolding wordsFor
   asked-words d e a b =
       let t = true-asked m (k .formed) (length ws) (k .mask) d e (k .closed) a b in
       let w : asked ws d e ≡ trueBook 0 m (t .mask) = ap (λ (w : List ℕ). asked w d e) (k .words) ∙ t .words in
-      let u : take (getD ws 4 0) ws ≡ trueBook 0 m (k .mask) = ap (λ (w : List ℕ). take (getD w 4 0) w) (k .words) ∙ true-take m (k .mask) (length ws) in
       let q : t .mask ≡ maskWith 6 (m .dims) (k .mask) (key d e)
-      = sym (book-mask m (t .mask) 0) ∙ ap (λ (v : List ℕ). getD v 1 0) (sym w ∙ asked-is ws d e) ∙ key-mask 6 (take (getD ws 4 0) ws) (key d e) .mask-is ∙ rw (u, book-dim m (k .formed) (k .mask) 0, book-mask m (k .mask) 0) in
+      = sym (book-mask m (t .mask) 0) ∙ ap (λ (v : List ℕ). getD v 1 0) (sym w) ∙ asked-mask d e in
       ap length w ∙ rw q
 
-  ask-planned : (d e : ℕ) → askNumber ws d e ≡ askPlan (length ws) m (k .mask) d e
+  pub ask-planned : (d e : ℕ) → askNumber ws d e ≡ askPlan (length ws) m (k .mask) d e
   unfolding askNumber askRules askPlan firstBroken
   ask-planned d e =
       rw (frame, rows, kept-dim m ws k) (go (ltb (m .dims) d) refl (ltb (m .dims) e) refl)
@@ -141,6 +148,15 @@ module _ (m : Mesh) (ws : List ℕ) (k : Kept m ws) where
       go true p y q = refl
       go false p true q = refl
       go false p false q = rw (asked-words d e (ltb-false _ _ p) (ltb-false _ _ q))
+
+  pub mask-after : (d e : ℕ) → getD (askWords ws d e) 1 0 ≡ maskAfter (length ws) m (k .mask) d e
+  unfolding maskAfter
+  mask-after d e =
+      rw (ask-is ws d e, ← ask-planned d e) (go (eqb (askNumber ws d e) 0))
+    where
+      go : (b : Bool) → getD (cond b (filled (length ws) (asked ws d e)) ws) 1 0 ≡ cond b (maskWith 6 (m .dims) (k .mask) (key d e)) (k .mask)
+      go true = getD-filled (length ws) (asked ws d e) 1 ∙ asked-mask d e
+      go false = kept-mask m ws k
 
   -- Row
   pub row-planned : (d e i : ℕ) → rowNumber ws d e i ≡ rowPlan m (k .mask) d e i
@@ -206,7 +222,7 @@ module _ (m : Mesh) (ws : List ℕ) (k : Kept m ws) where
   unfolding heldNumber heldRules firstBroken
   held-planned = rw frame
 
-  same-mask : (mask : ℕ) → Holds ws mask → mask ≡ k .mask
+  pub same-mask : (mask : ℕ) → Holds ws mask → mask ≡ k .mask
   same-mask mask h = masks-equal 16 mask (k .mask) (h .small) (k .closed .small) (λ j l. h .names j l ∙ kept-held m ws k j)
 
 pub planned : Planned

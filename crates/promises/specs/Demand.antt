@@ -1,17 +1,17 @@
 -- Demand 3, part by part, and the round trip: what is promised of a book after any sequence of calls, and of any right book.
 use mathlib.Core.Path.{_≡_}
-use mathlib.Core.Bool.{true, not, _||_}
+use mathlib.Core.Bool.{true, cond, not, _||_}
 use mathlib.Core.List.{List, [], _∷_, map}
-use Prim.Native.Nat.{ℕ, _/_, _%_, _^_, _≤_, _<_}
-use lib.ListN.{length, getD}
+use Prim.Native.Nat.{ℕ, _+_, _*_, _/_, _%_, _^_, _≤_, _<_}
+use lib.ListN.{length, getD, take}
 use lib.Dec.{eqb}
 use Rattle.rules.specs.Lists.{anyOf, allOf, has, inside, sorted}
 use Rattle.rules.specs.File.{fileDim, fileVertices, cellsInFile}
 use Rattle.rules.specs.Book.{key, named, held, count, rowOf, rowsOf, frameRight, rowsRight}
-use Rattle.rules.specs.Calls.{loadNumber, loadWords, makeNumber, makeWords, askNumber, askWords, rowNumber, rowPart, findNumber, findFound, written, writeNumber, eulerNumber, heldNumber}
+use Rattle.rules.specs.Calls.{loadNumber, loadWords, makeNumber, makeWords, askNumber, askWords, answersOf, wordsOf, listNumber, listAnswers, listWords, rowNumber, rowPart, findNumber, findFound, written, writeNumber, eulerNumber, heldNumber}
 use Rattle.rules.specs.Truth.{Mesh, meshOf, number, incident, trueRows, trueBook}
-use Rattle.rules.specs.Sequence.{Reached}
-use Rattle.promises.specs.Plan.{makePlan, askPlan, rowPlan, findPlan, writePlan, eulerPlan}
+use Rattle.rules.specs.Sequence.{State, askList, after, afterAll, asksOf, Reached}
+use Rattle.promises.specs.Plan.{makePlan, askPlan, answersPlan, rowPlan, findPlan, writePlan, eulerPlan}
 
 -- ==== demand 3, part by part
 -- every relation held is the true incidence of the last accepted mesh
@@ -59,6 +59,10 @@ abbrev pub NothingElse : Type 0
 NothingElse = (m : Mesh) (ws : List ℕ) → Reached m ws → (frameRight ws ≡ true) × (rowsRight ws ≡ true) × ((d e i j : ℕ) (bs : List ℕ)
     → allOf (λ n. not (eqb n 10 || eqb n 11)) (makeNumber ws d e ∷ askNumber ws d e ∷ rowNumber ws d e i ∷ findNumber ws d e i j ∷ writeNumber ws bs ∷ eulerNumber ws ∷ heldNumber ws ∷ []) ≡ true)
 
+-- nor does any answer of a list of asks
+abbrev pub ListedFine : Type 0
+ListedFine = (m : Mesh) (ws : List ℕ) → Reached m ws → (ps : List ℕ) → allOf (λ n. not (eqb n 10 || eqb n 11)) (answersOf ws ps) ≡ true
+
 -- the mask is the set of relations that the book holds
 pub record Holds (ws : List ℕ) (mask : ℕ) : Type 0 where
   pub small : mask < 2 ^ 16
@@ -75,13 +79,30 @@ Planned = (m : Mesh) (ws : List ℕ) → Reached m ws → (mask : ℕ) → Holds
     × (eulerNumber ws ≡ eulerPlan m mask)
     × (heldNumber ws ≡ 0)
 
+-- and so is each answer of a list of asks
+abbrev pub ListPlanned : Type 0
+ListPlanned = (m : Mesh) (ws : List ℕ) → Reached m ws → (mask : ℕ) → Holds ws mask → (ps : List ℕ)
+    → answersOf ws ps ≡ answersPlan (length ws) m mask ps
+
+-- a list of asks is read as those asks: the state after it is the state after them, and a refused list leaves the state
+abbrev pub ReadAsAsks : Type 0
+ReadAsAsks = (s : State) (ps ns : List ℕ)
+    → after s (askList ps ns) ≡ cond (eqb (listNumber ps ns) 0) (afterAll s (asksOf ps)) s
+
+-- and each pair's answer is the number of its ask, on the book that the asks before it leave
+abbrev pub AnsweredAsAsks : Type 0
+AnsweredAsAsks = (ws ps ns : List ℕ) → listNumber ps ns ≡ 0 → (i : ℕ) → i < length ns
+    → getD (listAnswers ws ps ns) i 0 ≡ askNumber (wordsOf ws (take (2 * i) ps)) (getD ps (2 * i) 0) (getD ps (2 * i + 1) 0)
+
 -- ==== books that somebody else wrote
--- on any book whose frame and rows are right, Make and Ask leave a book whose frame and rows are right
+-- on any book whose frame and rows are right, Make, Ask and a list of asks leave a book whose frame and rows are right
 abbrev pub StaysRight : Type 0
-StaysRight = (ws : List ℕ) → frameRight ws ≡ true → rowsRight ws ≡ true → (d e : ℕ)
+StaysRight = (ws : List ℕ) → frameRight ws ≡ true → rowsRight ws ≡ true → (d e : ℕ) (ps ns : List ℕ)
     → (frameRight (makeWords ws d e) ≡ true) × (rowsRight (makeWords ws d e) ≡ true)
     × (frameRight (askWords ws d e) ≡ true)
     × (rowsRight (askWords ws d e) ≡ true)
+    × (frameRight (listWords ws ps ns) ≡ true)
+    × (rowsRight (listWords ws ps ns) ≡ true)
 
 -- ==== the round trip
 -- from an accepted file: the file that Write gives has the same D and N_0, and the same cells in their order, each ascending

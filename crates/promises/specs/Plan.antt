@@ -40,6 +40,16 @@ unfoldable pub askPlan : ℕ → Mesh → ℕ → ℕ → ℕ → ℕ
 askPlan n m mask d e =
     firstBroken (rule (ltb (m .dims) d || ltb (m .dims) e) 12 ∷ rule (ltb n (wordsFor m (maskWith 6 (m .dims) mask (key d e)))) 13 ∷ []) 0
 
+-- the relations held after an ask in a book of n words: with all that the ask makes where it is accepted, else as they were
+unfoldable pub maskAfter : ℕ → Mesh → ℕ → ℕ → ℕ → ℕ
+maskAfter n m mask d e = cond (eqb (askPlan n m mask d e) 0) (maskWith 6 (m .dims) mask (key d e)) mask
+
+-- the answers of a list of asks in a book of n words: as Ask for each pair, with the relations that are held by then
+unfoldable pub answersPlan : ℕ → Mesh → ℕ → List ℕ → List ℕ
+answersPlan n m mask [] = []
+answersPlan n m mask (d ∷ []) = []
+answersPlan n m mask (d ∷ e ∷ ps) = askPlan n m mask d e ∷ answersPlan n m (maskAfter n m mask d e) ps
+
 -- Row: 12 if d or e is over D, else 16 if d→e is not held, else 17 if there is no entity (d, i), else 0
 unfoldable pub rowPlan : Mesh → ℕ → ℕ → ℕ → ℕ → ℕ
 rowPlan m mask d e i =

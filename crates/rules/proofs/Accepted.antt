@@ -1,8 +1,8 @@
 -- What an accepted call has passed: where the number is 0, no rule of its list is broken.
-use mathlib.Core.Path.{_≡_, refl, sym, _∙_}
+use mathlib.Core.Path.{_≡_, refl, sym, ap, _∙_}
 use mathlib.Core.Bool.{Bool, true, false, cond, not, _&&_, _||_}
 use mathlib.Core.List.{List, [], _∷_, _++_, map, List·Memᴰ as In, List·Memᴰ·head as here, List·Memᴰ·tail as there}
-use Prim.Native.Nat.{ℕ, _≤_, _<_}
+use Prim.Native.Nat.{ℕ, _*_, _/_, _%_, _≤_, _<_}
 use native.Mathlib.Omega.{arith}
 use lib.ListN.{length, length-append, length-replicate}
 use lib.Dec.{eqb, ltb, leb}
@@ -10,7 +10,7 @@ use borrow.Author.Tests.{not-true, not-false, ltb-true, ltb-false, leb-false, eq
 use Rattle.rules.specs.Lists.{anyOf, allOf, filled}
 use Rattle.rules.specs.File.{fileDim, fileVertices, fileCells, fileSpare, lengthOf, cellsInFile, outOf, twice, padSet}
 use Rattle.rules.specs.Book.{dim, count, key, held, needs, rowOf}
-use Rattle.rules.specs.Calls.{Rule, firstBroken, loaded, fileRules, loadRules, loadNumber, loadWords, added, makeRules, makeNumber, makeWords, asked, askRules, askNumber, askWords, rowRules, rowNumber, rowPart, foundIn, readIn, findRules, findNumber, findFound, findRead}
+use Rattle.rules.specs.Calls.{Rule, firstBroken, loaded, fileRules, loadRules, loadNumber, loadWords, added, makeRules, makeNumber, makeWords, asked, askRules, askNumber, askWords, wordsOf, pairsOff, listRules, listNumber, listWords, rowRules, rowNumber, rowPart, foundIn, readIn, findRules, findNumber, findFound, findRead}
 use Rattle.rules.proofs.Tests.{left, right, neither}
 
 -- where the answer is 0 and no rule's answer is, no rule was broken
@@ -161,6 +161,50 @@ asks ws d e h =
 pub ask-is : (ws : List ℕ) (d e : ℕ) → askWords ws d e ≡ cond (eqb (askNumber ws d e) 0) (filled (length ws) (asked ws d e)) ws
 unfolding askWords
 ask-is ws d e = refl
+
+pub ask-length : (ws : List ℕ) (d e : ℕ) → length (askWords ws d e) ≡ length ws
+ask-length ws d e =
+    rw (ask-is ws d e) (go (eqb (askNumber ws d e) 0) refl)
+  where
+    go : (b : Bool) → eqb (askNumber ws d e) 0 ≡ b → length (cond b (filled (length ws) (asked ws d e)) ws) ≡ length ws
+    go true q = length-filled (length ws) (asked ws d e) (asks ws d e (eqb-true (askNumber ws d e) 0 q) .fits)
+    go false q = refl
+
+-- ---- a list of asks
+pub pairs-two : (p n : ℕ) → pairsOff p n ≡ false → p ≡ 2 * n
+unfolding pairsOff
+pairs-two p n h =
+    let a = neither (eqb (p % 2) 1 || ltb _ (p / 2)) (not (eqb n (p / 2))) (ap not h) in
+    let b = neither (eqb (p % 2) 1) (ltb _ (p / 2)) (ap not (a .0)) in
+    let odd = eqb-false (p % 2) 1 (b .0) in
+    let fits = eqb-true n (p / 2) (not-false _ (a .1)) in
+    omega arith
+
+pub list-accepted : (ps ns : List ℕ) → listNumber ps ns ≡ 0 → length ps ≡ 2 * length ns
+unfolding listNumber listRules firstBroken
+list-accepted ps ns h =
+    pairs-two (length ps) (length ns) (go (pairsOff (length ps) (length ns)) h)
+  where
+    go : (b : Bool) → _≡_ {A = ℕ} (cond b 20 0) 0 → b ≡ false
+    go true q = absurd (omega arith)
+    go false q = refl
+
+-- what every ask keeps, a list of asks keeps
+module _ (P : List ℕ → Type 0) (keeps : (ws : List ℕ) (d e : ℕ) → P ws → P (askWords ws d e)) where
+  words-keep : (ps ws : List ℕ) → P ws → P (wordsOf ws ps)
+  unfolding wordsOf
+  words-keep [] ws h = h
+  words-keep (d ∷ []) ws h = h
+  words-keep (d ∷ e ∷ ps) ws h = words-keep ps (askWords ws d e) (keeps ws d e h)
+
+  pub list-keep : (ws ps ns : List ℕ) → P ws → P (listWords ws ps ns)
+  unfolding listWords
+  list-keep ws ps ns h =
+      go (eqb (listNumber ps ns) 0)
+    where
+      go : (b : Bool) → P (cond b (wordsOf ws ps) ws)
+      go true = words-keep ps ws h
+      go false = h
 
 -- ---- Row
 pub record Rowed (ws : List ℕ) (d e i : ℕ) : Type 0 where

@@ -138,6 +138,39 @@ askNumber ws d e = firstBroken (askRules ws d e) 0
 unfoldable pub askWords : List ℕ → ℕ → ℕ → List ℕ
 askWords ws d e = cond (eqb (askNumber ws d e) 0) (filled (length ws) (asked ws d e)) ws
 
+-- ==== "A list of asks"
+-- the numbers of one ask after another, for a list of d, e pairs, two numbers each
+unfoldable pub answersOf : List ℕ → List ℕ → List ℕ
+answersOf ws [] = []
+answersOf ws (d ∷ []) = []
+answersOf ws (d ∷ e ∷ ps) = askNumber ws d e ∷ answersOf (askWords ws d e) ps
+
+-- the book after one ask after another; a refused one does not stop the next
+unfoldable pub wordsOf : List ℕ → List ℕ → List ℕ
+wordsOf ws [] = ws
+wordsOf ws (d ∷ []) = ws
+wordsOf ws (d ∷ e ∷ ps) = wordsOf (askWords ws d e) ps
+
+-- whether p numbers of pairs and n answers are no list: half a pair, over 16 pairs, or not one place a pair
+unfoldable pub pairsOff : ℕ → ℕ → Bool
+pairsOff p n = eqb (p % 2) 1 || ltb 16 (p / 2) || not (eqb n (p / 2))
+
+-- the list's refusal: 20 by its two lengths
+unfoldable pub listRules : List ℕ → List ℕ → List (Rule ℕ)
+listRules ps ns = rule (pairsOff (length ps) (length ns)) 20 ∷ []
+
+-- the list's number, 0 where accepted
+unfoldable pub listNumber : List ℕ → List ℕ → ℕ
+listNumber ps ns = firstBroken (listRules ps ns) 0
+
+-- the answers after the list: one number a pair, 0 where accepted
+unfoldable pub listAnswers : List ℕ → List ℕ → List ℕ → List ℕ
+listAnswers ws ps ns = cond (eqb (listNumber ps ns) 0) (answersOf ws ps) ns
+
+-- the book after the list
+unfoldable pub listWords : List ℕ → List ℕ → List ℕ → List ℕ
+listWords ws ps ns = cond (eqb (listNumber ps ns) 0) (wordsOf ws ps) ws
+
 -- ==== "Calls": Row
 -- Row's refusals: 10, 12, 16, 17, and 11 where its own two offsets are not first ≤ second ≤ total
 unfoldable pub rowRules : List ℕ → ℕ → ℕ → ℕ → List (Rule ℕ)

@@ -1,0 +1,126 @@
+-- A list of asks, by what becomes of it as a whole: refused for its lengths, one answer for all, or one ask after another.
+use mathlib.Core.Path.{_≡_, refl, sym, _∙_}
+use mathlib.Core.Bool.{Bool, true, false, cond, not, _||_}
+use mathlib.Core.Logic.{_≢_}
+use mathlib.Core.List.{List}
+use Prim.Native.Nat.{ℕ, _/_, _%_, _≤_, _<_}
+use native.Mathlib.Omega.{arith}
+use lib.ListN.{length, replicate}
+use lib.Dec.{eqb, ltb}
+use borrow.Author.Tests.{eq-eqb, ne-eqb, lt-ltb, le-ltb}
+use Rattle.rules.specs.Book.{frameRight, rowsRight}
+use Rattle.rules.specs.Calls.{firstBroken, answersOf, wordsOf, pairsOff, listRules, listNumber, listAnswers, listWords}
+use Rattle.rules.proofs.Accepted.{pairs-two}
+use Rattle.daybook.specs.Lists.{wholeNumber}
+use Rattle.daybook.proofs.MakeCases.{either, other, Asks, ask-frame, ask-rows}
+use Rattle.daybook.proofs.InTurn.{all-alike}
+
+-- ---- which test is the first that fails
+module _ (ws : List ℕ) (p n : ℕ) where
+  odd : Bool
+  odd = eqb (p % 2) 1
+
+  over : Bool
+  over = ltb 16 (p / 2)
+
+  uneven : Bool
+  uneven = not (eqb n (p / 2))
+
+  refuses : (odd || over || uneven) ≡ true → 20 ≡ wholeNumber ws p n
+  unfolding wholeNumber firstBroken pairsOff odd over uneven
+  refuses h = rw h
+
+  pub whole-odd : p % 2 ≡ 1 → 20 ≡ wholeNumber ws p n
+  unfolding odd
+  whole-odd h = refuses (either (odd || over) uneven (either odd over (eq-eqb (p % 2) 1 h)))
+
+  pub whole-over : 16 < p / 2 → 20 ≡ wholeNumber ws p n
+  unfolding over
+  whole-over h = refuses (either (odd || over) uneven (other odd over (lt-ltb 16 (p / 2) h)))
+
+  pub whole-places : n ≢ p / 2 → 20 ≡ wholeNumber ws p n
+  unfolding uneven
+  whole-places h = refuses (other (odd || over) uneven (rw (ne-eqb n (p / 2) h)))
+
+  module _ (a : p % 2 ≢ 1) (b : p / 2 ≤ 16) (c : n ≡ p / 2) where
+    fits : pairsOff p n ≡ false
+    unfolding pairsOff
+    fits = rw (ne-eqb (p % 2) 1 a, le-ltb 16 (p / 2) b, eq-eqb n (p / 2) c)
+
+    pub whole-frame : frameRight ws ≡ false → 10 ≡ wholeNumber ws p n
+    unfolding wholeNumber firstBroken
+    whole-frame f = rw (fits, f)
+
+    pub whole-rows : frameRight ws ≡ true → rowsRight ws ≡ false → 11 ≡ wholeNumber ws p n
+    unfolding wholeNumber firstBroken
+    whole-rows f r = rw (fits, f, r)
+
+    pub whole-right : frameRight ws ≡ true → rowsRight ws ≡ true → 0 ≡ wholeNumber ws p n
+    unfolding wholeNumber firstBroken
+    whole-right f r = rw (fits, f, r)
+
+-- ---- what the list gives then
+-- what a list of asks has to give: its number, the answers ms and the book vs
+pub record Lists (ws ps ns : List ℕ) (number : ℕ) (ms vs : List ℕ) : Type 0 where
+  pub number-is : number ≡ listNumber ps ns
+  pub answers-are : ms ≡ listAnswers ws ps ns
+  pub words-are : vs ≡ listWords ws ps ns
+
+-- what is there before one ask after another: a right book, and two numbers for each answer
+pub record Ready (ws ps ns : List ℕ) : Type 0 where
+  pub off : pairsOff (length ps) (length ns) ≡ false
+  pub frame : frameRight ws ≡ true
+  pub rows : rowsRight ws ≡ true
+
+module _ (ws ps ns : List ℕ) where
+  refused : pairsOff (length ps) (length ns) ≡ true → Lists ws ps ns 20 ns ws
+  unfolding listAnswers listWords
+  refused h =
+      let q : listNumber ps ns ≡ 20 = unfold listNumber listRules firstBroken in rw h in
+      record { number-is = sym q; answers-are = rw q; words-are = rw q }
+
+  asked : pairsOff (length ps) (length ns) ≡ false → (ms vs : List ℕ) → ms ≡ answersOf ws ps → vs ≡ wordsOf ws ps → Lists ws ps ns 0 ms vs
+  unfolding listAnswers listWords
+  asked h ms vs p w =
+      let q : listNumber ps ns ≡ 0 = unfold listNumber listRules firstBroken in rw h in
+      record { number-is = sym q; answers-are = rw q p; words-are = rw q w }
+
+  alike : pairsOff (length ps) (length ns) ≡ false → (n : ℕ) → ((d e : ℕ) → Asks ws d e n ws) → (ms : List ℕ) → ms ≡ replicate (length ns) n → Lists ws ps ns 0 ms ws
+  alike h n a ms p =
+      let r = all-alike ws n (λ d e. (sym (a d e .number-is), sym (a d e .words-are))) ps (length ns) (pairs-two (length ps) (length ns) h) in
+      asked h ms ws (p ∙ sym (r .0)) (sym (r .1))
+
+  module _ (n : ℕ) (q : n ≡ wholeNumber ws (length ps) (length ns)) where
+    by : (o f r : Bool) → pairsOff (length ps) (length ns) ≡ o → frameRight ws ≡ f → rowsRight ws ≡ r → n ≡ cond o 20 (cond (not f) 10 (cond (not r) 11 0))
+    unfolding wholeNumber firstBroken
+    by o f r p s t = q ∙ rw (p, s, t)
+
+    pub list-refused : n ≡ 20 → Lists ws ps ns (cond (eqb n 20) 20 0) ns ws
+    list-refused h = rw h (go (pairsOff (length ps) (length ns)) (frameRight ws) (rowsRight ws) refl (by _ _ _ refl refl refl))
+      where
+        go : (o f r : Bool) → pairsOff (length ps) (length ns) ≡ o → n ≡ cond o 20 (cond (not f) 10 (cond (not r) 11 0)) → Lists ws ps ns 20 ns ws
+        go true f r p e = refused p
+        go false false r p e = absurd (omega arith)
+        go false true false p e = absurd (omega arith)
+        go false true true p e = absurd (omega arith)
+
+    pub list-ready : n ≡ 0 → Ready ws ps ns
+    list-ready h = go (pairsOff (length ps) (length ns)) (frameRight ws) (rowsRight ws) refl refl refl (by _ _ _ refl refl refl)
+      where
+        go : (o f r : Bool) → pairsOff (length ps) (length ns) ≡ o → frameRight ws ≡ f → rowsRight ws ≡ r → n ≡ cond o 20 (cond (not f) 10 (cond (not r) 11 0)) → Ready ws ps ns
+        go true f r p s t e = absurd (omega arith)
+        go false false r p s t e = absurd (omega arith)
+        go false true false p s t e = absurd (omega arith)
+        go false true true p s t e = record { off = p; frame = s; rows = t }
+
+    pub list-alike : n ≢ 0 → n ≢ 20 → (ms : List ℕ) → ms ≡ replicate (length ns) n → Lists ws ps ns (cond (eqb n 20) 20 0) ms ws
+    list-alike u v ms w = rw (ne-eqb n 20 v) (go (pairsOff (length ps) (length ns)) (frameRight ws) (rowsRight ws) refl refl refl (by _ _ _ refl refl refl))
+      where
+        go : (o f r : Bool) → pairsOff (length ps) (length ns) ≡ o → frameRight ws ≡ f → rowsRight ws ≡ r → n ≡ cond o 20 (cond (not f) 10 (cond (not r) 11 0)) → Lists ws ps ns 0 ms ws
+        go true f r p s t e = absurd (v e)
+        go false false r p s t e = alike p 10 (λ d e. ask-frame ws d e s) ms (w ∙ rw e)
+        go false true false p s t e = alike p 11 (λ d e. ask-rows ws d e s t) ms (w ∙ rw e)
+        go false true true p s t e = absurd (u e)
+
+    pub list-asked : n ≡ 0 → (ms vs : List ℕ) → ms ≡ answersOf ws ps → vs ≡ wordsOf ws ps → Lists ws ps ns (cond (eqb n 20) 20 0) ms vs
+    list-asked h = rw h (asked (list-ready h .off))
