@@ -22,6 +22,11 @@ module _ (ws ps ns : List ℕ) where
   pub turn-none : Right ws → InTurn ws ps ns 0 ws ns
   turn-none r = record { right = r; long = refl; size = refl; words = refl; answers = refl }
 
+  pair-front : (i : ℕ) → 2 * i + 1 < length ps → drop (2 * i) ps ≡ getD ps (2 * i) 0 ∷ getD ps (2 * i + 1) 0 ∷ drop (2 * (i + 1)) ps
+  pair-front i l =
+      let n : 2 * (i + 1) ≡ suc (suc (2 * i)) = omega arith in
+      rw (n, add-one (2 * i)) (drop-cons ps (2 * i) 0 (omega arith) ∙ rw (drop-cons ps (suc (2 * i)) 0 (omega arith)))
+
   module _ (i : ℕ) (vs ms : List ℕ) (t : InTurn ws ps ns i vs ms) where
     pub turn-more : 2 * i + 1 < length ps → i < length ns → (x : ℕ) → x ≡ askNumber vs (getD ps (2 * i) 0) (getD ps (2 * i + 1) 0)
         → (us : List ℕ) → us ≡ askWords vs (getD ps (2 * i) 0) (getD ps (2 * i + 1) 0) → InTurn ws ps ns (i + 1) us (set ms i x)
@@ -30,16 +35,14 @@ module _ (ws ps ns : List ℕ) where
         let d = getD ps (2 * i) 0 in
         let e = getD ps (2 * i + 1) 0 in
         let rest = drop (2 * (i + 1)) ps in
-        let two : drop (2 * i) ps ≡ d ∷ e ∷ rest =
-        let n : 2 * (i + 1) ≡ suc (suc (2 * i)) = omega arith in
-        rw (n, add-one (2 * i)) (drop-cons ps (2 * i) 0 (omega arith) ∙ rw (drop-cons ps (suc (2 * i)) 0 (omega arith))) in
+        let f = pair-front i l in
         let a : take (i + 1) (set ms i x) ≡ take i ms ++ x ∷ [] = rw (add-one i) (take-suc-set ms i x (rw (t .size) h)) in
         record {
           right = rw w (ask-right vs (t .right) d e);
           long = rw w (ask-length vs d e ∙ t .long);
           size = length-set ms i x ∙ t .size;
-          words = rw w (sym (ap (wordsOf vs) two) ∙ t .words);
-          answers = rw (a, q, w) (append-assoc (take i ms) (askNumber vs d e ∷ []) (answersOf (askWords vs d e) rest) ∙ sym (ap (λ v. take i ms ++ answersOf vs v) two) ∙ t .answers);
+          words = rw w (sym (ap (wordsOf vs) f) ∙ t .words);
+          answers = rw (a, q, w) (append-assoc (take i ms) (askNumber vs d e ∷ []) (answersOf (askWords vs d e) rest) ∙ sym (ap (λ v. take i ms ++ answersOf vs v) f) ∙ t .answers);
         }
 
     pub turn-all : length ps ≤ 2 * i → length ns ≤ i → (ms ≡ answersOf ws ps) × (vs ≡ wordsOf ws ps)

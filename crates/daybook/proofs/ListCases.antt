@@ -66,11 +66,17 @@ pub record Lists (ws ps ns : List ℕ) (number : ℕ) (ms vs : List ℕ) : Type 
   pub answers-are : ms ≡ listAnswers ws ps ns
   pub words-are : vs ≡ listWords ws ps ns
 
--- what is there before one ask after another: a right book, and two numbers for each answer
+-- what is there before one ask after another: lengths that are not refused, and a right book
 pub record Ready (ws ps ns : List ℕ) : Type 0 where
-  pub off : pairsOff (length ps) (length ns) ≡ false
+  pub lengths : pairsOff (length ps) (length ns) ≡ false
   pub frame : frameRight ws ≡ true
   pub rows : rowsRight ws ≡ true
+
+-- the ways of a list, by its number as a whole: refused, every ask with this number, or one ask after another
+data Way (ws ps ns : List ℕ) (n : ℕ) : Type 0 where
+  off : pairsOff (length ps) (length ns) ≡ true → n ≡ 20 → Way ws ps ns n
+  alike : pairsOff (length ps) (length ns) ≡ false → ((d e : ℕ) → Asks ws d e n ws) → 0 < n → n < 20 → Way ws ps ns n
+  each : Ready ws ps ns → n ≡ 0 → Way ws ps ns n
 
 module _ (ws ps ns : List ℕ) where
   refused : pairsOff (length ps) (length ns) ≡ true → Lists ws ps ns 20 ns ws
@@ -79,48 +85,56 @@ module _ (ws ps ns : List ℕ) where
       let q : listNumber ps ns ≡ 20 = unfold listNumber listRules firstBroken in rw h in
       record { number-is = sym q; answers-are = rw q; words-are = rw q }
 
-  asked : pairsOff (length ps) (length ns) ≡ false → (ms vs : List ℕ) → ms ≡ answersOf ws ps → vs ≡ wordsOf ws ps → Lists ws ps ns 0 ms vs
+  accepted : pairsOff (length ps) (length ns) ≡ false → (ms vs : List ℕ) → ms ≡ answersOf ws ps → vs ≡ wordsOf ws ps → Lists ws ps ns 0 ms vs
   unfolding listAnswers listWords
-  asked h ms vs p w =
+  accepted h ms vs p w =
       let q : listNumber ps ns ≡ 0 = unfold listNumber listRules firstBroken in rw h in
       record { number-is = sym q; answers-are = rw q p; words-are = rw q w }
 
-  alike : pairsOff (length ps) (length ns) ≡ false → (n : ℕ) → ((d e : ℕ) → Asks ws d e n ws) → (ms : List ℕ) → ms ≡ replicate (length ns) n → Lists ws ps ns 0 ms ws
-  alike h n a ms p =
-      let r = all-alike ws n (λ d e. (sym (a d e .number-is), sym (a d e .words-are))) ps (length ns) (pairs-two (length ps) (length ns) h) in
-      asked h ms ws (p ∙ sym (r .0)) (sym (r .1))
-
   module _ (n : ℕ) (q : n ≡ wholeNumber ws (length ps) (length ns)) where
-    by : (o f r : Bool) → pairsOff (length ps) (length ns) ≡ o → frameRight ws ≡ f → rowsRight ws ≡ r → n ≡ cond o 20 (cond (not f) 10 (cond (not r) 11 0))
+    way : Way ws ps ns n
     unfolding wholeNumber firstBroken
-    by o f r p s t = q ∙ rw (p, s, t)
+    way =
+        go (pairsOff (length ps) (length ns)) (frameRight ws) (rowsRight ws) refl refl refl
+      where
+        go : (o f r : Bool) → pairsOff (length ps) (length ns) ≡ o → frameRight ws ≡ f → rowsRight ws ≡ r → Way ws ps ns n
+        go true f r p s t = off p (q ∙ rw p)
+        go false false r p s t =
+            let e : n ≡ 10 = q ∙ rw (p, s) in
+            alike p (λ x y. rw e (ask-frame ws x y s)) (omega arith) (omega arith)
+        go false true false p s t =
+            let e : n ≡ 11 = q ∙ rw (p, s, t) in
+            alike p (λ x y. rw e (ask-rows ws x y s t)) (omega arith) (omega arith)
+        go false true true p s t = each (record { lengths = p; frame = s; rows = t }) (q ∙ rw (p, s, t))
 
     pub list-refused : n ≡ 20 → Lists ws ps ns (cond (eqb n 20) 20 0) ns ws
-    list-refused h = rw h (go (pairsOff (length ps) (length ns)) (frameRight ws) (rowsRight ws) refl (by _ _ _ refl refl refl))
+    list-refused h =
+        rw h (go way)
       where
-        go : (o f r : Bool) → pairsOff (length ps) (length ns) ≡ o → n ≡ cond o 20 (cond (not f) 10 (cond (not r) 11 0)) → Lists ws ps ns 20 ns ws
-        go true f r p e = refused p
-        go false false r p e = absurd (omega arith)
-        go false true false p e = absurd (omega arith)
-        go false true true p e = absurd (omega arith)
-
-    pub list-ready : n ≡ 0 → Ready ws ps ns
-    list-ready h = go (pairsOff (length ps) (length ns)) (frameRight ws) (rowsRight ws) refl refl refl (by _ _ _ refl refl refl)
-      where
-        go : (o f r : Bool) → pairsOff (length ps) (length ns) ≡ o → frameRight ws ≡ f → rowsRight ws ≡ r → n ≡ cond o 20 (cond (not f) 10 (cond (not r) 11 0)) → Ready ws ps ns
-        go true f r p s t e = absurd (omega arith)
-        go false false r p s t e = absurd (omega arith)
-        go false true false p s t e = absurd (omega arith)
-        go false true true p s t e = record { off = p; frame = s; rows = t }
+        go : Way ws ps ns n → Lists ws ps ns 20 ns ws
+        go (off p e) = refused p
+        go (alike p a l m) = absurd (omega arith)
+        go (each r e) = absurd (omega arith)
 
     pub list-alike : n ≢ 0 → n ≢ 20 → (ms : List ℕ) → ms ≡ replicate (length ns) n → Lists ws ps ns (cond (eqb n 20) 20 0) ms ws
-    list-alike u v ms w = rw (ne-eqb n 20 v) (go (pairsOff (length ps) (length ns)) (frameRight ws) (rowsRight ws) refl refl refl (by _ _ _ refl refl refl))
+    list-alike u v ms w =
+        rw (ne-eqb n 20 v) (go way)
       where
-        go : (o f r : Bool) → pairsOff (length ps) (length ns) ≡ o → frameRight ws ≡ f → rowsRight ws ≡ r → n ≡ cond o 20 (cond (not f) 10 (cond (not r) 11 0)) → Lists ws ps ns 0 ms ws
-        go true f r p s t e = absurd (v e)
-        go false false r p s t e = alike p 10 (λ d e. ask-frame ws d e s) ms (w ∙ rw e)
-        go false true false p s t e = alike p 11 (λ d e. ask-rows ws d e s t) ms (w ∙ rw e)
-        go false true true p s t e = absurd (u e)
+        go : Way ws ps ns n → Lists ws ps ns 0 ms ws
+        go (off p e) = absurd (v e)
+        go (alike p a l m) =
+            let r = all-alike ws n (λ d e. (sym (a d e .number-is), sym (a d e .words-are))) ps (length ns) (pairs-two (length ps) (length ns) p) in
+            accepted p ms ws (w ∙ sym (r .0)) (sym (r .1))
+        go (each r e) = absurd (u e)
 
-    pub list-asked : n ≡ 0 → (ms vs : List ℕ) → ms ≡ answersOf ws ps → vs ≡ wordsOf ws ps → Lists ws ps ns (cond (eqb n 20) 20 0) ms vs
-    list-asked h = rw h (asked (list-ready h .off))
+    pub list-ready : n ≡ 0 → Ready ws ps ns
+    list-ready h =
+        go way
+      where
+        go : Way ws ps ns n → Ready ws ps ns
+        go (off p e) = absurd (omega arith)
+        go (alike p a l m) = absurd (omega arith)
+        go (each r e) = r
+
+    pub list-each : n ≡ 0 → (ms vs : List ℕ) → ms ≡ answersOf ws ps → vs ≡ wordsOf ws ps → Lists ws ps ns (cond (eqb n 20) 20 0) ms vs
+    list-each h = rw h (accepted (list-ready h .lengths))

@@ -5,7 +5,7 @@ use mathlib.Core.Logic.{⊎-elim}
 use lib.ListN.{length}
 use lib.Dec.{eqb}
 use Rattle.rules.proofs.Accepted.{pairs-two}
-use Rattle.daybook.proofs.ListCases.{Lists, list-refused, list-ready, list-alike, list-asked}
+use Rattle.daybook.proofs.ListCases.{Lists, list-refused, list-alike, list-ready, list-each}
 use borrow.Author.Needs.{needs}
 use Rattle.daybook.proofs.lists.ask_list.Statement.{statement}
 use Rattle.daybook.proofs.lists.ask_list.Tie as tie
@@ -20,7 +20,7 @@ ask-each-requires c κs =
     let ps = s .args .pairs .now in
     let ns = s .args .answers .now in
     let r = list-ready ws ps ns _ (c .before .before .before .whole-number .ensures) (c .before .before .if1 .taken) in
-    (r .frame, (r .rows, pairs-two _ _ (r .off)))
+    (r .frame, (r .rows, pairs-two _ _ (r .lengths)))
 
 answer-all-requires : tie.Need-answer-all-requires
 answer-all-requires c κs = search needs
@@ -42,7 +42,7 @@ returns c =
     let ns = s .args .answers .now in
     let n = c .before .before .whole-number in
     let g : Lists ws ps ns (cond (eqb (n .result) 20) 20 0) (c .before .if1 .answers) (c .before .if1 .book) =
-    ⊎-elim (λ w. rw (w .8, w .9) (list-asked ws ps ns _ (n .ensures) (w .0 .taken) _ _ (w .3 .ensures .0) (w .3 .ensures .1)))
+    ⊎-elim (λ w. rw (w .8, w .9) (list-each ws ps ns _ (n .ensures) (w .0 .taken) _ _ (w .3 .ensures .0) (w .3 .ensures .1)))
     (λ v. ⊎-elim (λ w. rw (w .6, w .7) (list-alike ws ps ns _ (n .ensures) (w .0 .left) (w .1 .taken) _ (w .3 .ensures)))
     (λ w. rw (w .2, w .3) (list-refused ws ps ns _ (n .ensures) (w .1 .left))) v)
     (c .before .if1 .came) in
