@@ -1,5 +1,5 @@
 -- A list of asks is read as those asks, one after another; on a reached book no answer is 10 or 11, and each is planned.
-use mathlib.Core.Path.{_≡_, refl, sym, _∙_}
+use mathlib.Core.Path.{_≡_, refl, sym, ap, _∙_}
 use mathlib.Core.Bool.{Bool, true, false, cond}
 use mathlib.Core.List.{List, [], _∷_}
 use Prim.Native.Nat.{ℕ, zero, suc, _+_, _*_, _<_}
@@ -14,7 +14,7 @@ use Rattle.rules.proofs.Accepted.{list-accepted, ask-length}
 use Rattle.rules.proofs.Faultless.{fine, ask-fine}
 use Rattle.rules.proofs.Tests.{and-of}
 use Rattle.promises.specs.Demand.{ListedFine, ListPlanned, ReadAsAsks, AnsweredAsAsks}
-use Rattle.promises.specs.Plan.{answersPlan, maskAfter}
+use Rattle.promises.specs.Plan.{askPlan, maskAfter, answersPlan}
 use Rattle.promises.proofs.Kept.{Kept, kept-mask, kept-frame, kept-rows, ask-kept, reached-kept}
 use Rattle.promises.proofs.Planned.{ask-planned, mask-after, same-mask}
 
@@ -67,7 +67,8 @@ answers-planned m (d ∷ []) ws k = refl
 answers-planned m (d ∷ e ∷ ps) ws k =
     let n = ask-kept m ws k d e in
     let q : n .mask ≡ maskAfter (length ws) m (k .mask) d e = sym (kept-mask m (askWords ws d e) n) ∙ mask-after m ws k d e in
-    rw (← ask-planned m ws k d e, ← q, ← ask-length ws d e, ← answers-planned m ps (askWords ws d e) n)
+    let r = answers-planned m ps (askWords ws d e) n ∙ ap (λ (l : ℕ). answersPlan l m (n .mask) ps) (ask-length ws d e) ∙ ap (λ (x : ℕ). answersPlan (length ws) m x ps) q in
+    rw (ask-planned m ws k d e) (ap (λ (v : List ℕ). askPlan (length ws) m (k .mask) d e ∷ v) r)
 
 pub list-planned : ListPlanned
 list-planned m ws r mask h ps =
