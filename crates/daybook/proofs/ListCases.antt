@@ -10,9 +10,10 @@ use lib.Dec.{eqb, ltb}
 use borrow.Author.Tests.{eq-eqb, ne-eqb, lt-ltb, le-ltb}
 use Rattle.rules.specs.Book.{frameRight, rowsRight}
 use Rattle.rules.specs.Calls.{firstBroken, answersOf, wordsOf, pairsOff, listRules, listNumber, listAnswers, listWords}
+use Rattle.rules.proofs.Tests.{or-right}
 use Rattle.rules.proofs.Accepted.{pairs-two}
 use Rattle.daybook.specs.Lists.{wholeNumber}
-use Rattle.daybook.proofs.MakeCases.{either, other, Asks, ask-frame, ask-rows}
+use Rattle.daybook.proofs.MakeCases.{Asks, ask-frame, ask-rows}
 use Rattle.daybook.proofs.InTurn.{all-alike}
 
 -- ---- which test is the first that fails
@@ -32,15 +33,15 @@ module _ (ws : List ℕ) (p n : ℕ) where
 
   pub whole-odd : p % 2 ≡ 1 → 20 ≡ wholeNumber ws p n
   unfolding odd
-  whole-odd h = refuses (either (odd || over) uneven (either odd over (eq-eqb (p % 2) 1 h)))
+  whole-odd h = refuses (rw (eq-eqb (p % 2) 1 h))
 
   pub whole-over : 16 < p / 2 → 20 ≡ wholeNumber ws p n
   unfolding over
-  whole-over h = refuses (either (odd || over) uneven (other odd over (lt-ltb 16 (p / 2) h)))
+  whole-over h = refuses (rw (or-right odd over (lt-ltb 16 (p / 2) h)))
 
   pub whole-places : n ≢ p / 2 → 20 ≡ wholeNumber ws p n
   unfolding uneven
-  whole-places h = refuses (other (odd || over) uneven (rw (ne-eqb n (p / 2) h)))
+  whole-places h = refuses (or-right (odd || over) uneven (rw (ne-eqb n (p / 2) h)))
 
   module _ (a : p % 2 ≢ 1) (b : p / 2 ≤ 16) (c : n ≡ p / 2) where
     fits : pairsOff p n ≡ false

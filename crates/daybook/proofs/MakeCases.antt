@@ -1,15 +1,16 @@
 -- Make and Ask, case by case: which rule is broken first, and the words.
-use mathlib.Core.Path.{_≡_, refl, sym, ap, _∙_}
-use mathlib.Core.Bool.{Bool, true, false, cond, not, _||_}
+use mathlib.Core.Path.{_≡_, sym, _∙_}
+use mathlib.Core.Bool.{Bool, true, false, cond}
 use mathlib.Core.List.{List}
 use Prim.Native.Nat.{ℕ, suc, _≤_, _<_}
 use native.Mathlib.Omega.{arith}
 use lib.ListN.{length, getD, take}
-use lib.Dec.{eqb, ltb, leb}
+use lib.Dec.{ltb, leb}
 use borrow.Author.Tests.{ne-eqb, lt-ltb, le-ltb, leb-true, leb-false}
 use Rattle.rules.specs.Lists.{allOf, filled}
 use Rattle.rules.specs.Book.{dim, key, held, needs, frameRight, rowsRight}
 use Rattle.rules.specs.Calls.{firstBroken, added, withKey, asked, makeRules, makeNumber, makeWords, askRules, askNumber, askWords}
+use Rattle.rules.proofs.Tests.{or-right}
 
 -- what a call of Make has to give
 pub record Makes (ws : List ℕ) (d e number : ℕ) (vs : List ℕ) : Type 0 where
@@ -28,13 +29,6 @@ make-words ws d e n q = rw (q, ne-eqb (suc n) 0 (λ z. omega arith))
 ask-words : (ws : List ℕ) (d e n : ℕ) → askNumber ws d e ≡ suc n → askWords ws d e ≡ ws
 unfolding askWords
 ask-words ws d e n q = rw (q, ne-eqb (suc n) 0 (λ z. omega arith))
-
-pub either : (a b : Bool) → (a ≡ true) → (a || b) ≡ true
-either a b h = rw h
-
-pub other : (a b : Bool) → (b ≡ true) → (a || b) ≡ true
-other true b h = refl
-other false b h = h
 
 module _ (ws : List ℕ) (d e : ℕ) where
   make-refused : (n : ℕ) → makeNumber ws d e ≡ suc n → Makes ws d e (suc n) ws
@@ -58,16 +52,16 @@ module _ (ws : List ℕ) (d e : ℕ) where
 
     module _ (r : rowsRight ws ≡ true) where
       pub make-first : dim ws < d → Makes ws d e 12 ws
-      make-first l = make-refused 11 (unfold makeNumber makeRules firstBroken in rw (f, r, either (ltb (dim ws) d) (ltb (dim ws) e) (lt-ltb (dim ws) d l)))
+      make-first l = make-refused 11 (unfold makeNumber makeRules firstBroken in rw (f, r, lt-ltb (dim ws) d l))
 
       pub ask-first : dim ws < d → Asks ws d e 12 ws
-      ask-first l = ask-refused 11 (unfold askNumber askRules firstBroken in rw (f, r, either (ltb (dim ws) d) (ltb (dim ws) e) (lt-ltb (dim ws) d l)))
+      ask-first l = ask-refused 11 (unfold askNumber askRules firstBroken in rw (f, r, lt-ltb (dim ws) d l))
 
       pub make-second : dim ws < e → Makes ws d e 12 ws
-      make-second l = make-refused 11 (unfold makeNumber makeRules firstBroken in rw (f, r, other (ltb (dim ws) d) (ltb (dim ws) e) (lt-ltb (dim ws) e l)))
+      make-second l = make-refused 11 (unfold makeNumber makeRules firstBroken in rw (f, r, or-right (ltb (dim ws) d) (ltb (dim ws) e) (lt-ltb (dim ws) e l)))
 
       pub ask-second : dim ws < e → Asks ws d e 12 ws
-      ask-second l = ask-refused 11 (unfold askNumber askRules firstBroken in rw (f, r, other (ltb (dim ws) d) (ltb (dim ws) e) (lt-ltb (dim ws) e l)))
+      ask-second l = ask-refused 11 (unfold askNumber askRules firstBroken in rw (f, r, or-right (ltb (dim ws) d) (ltb (dim ws) e) (lt-ltb (dim ws) e l)))
 
       module _ (a : d ≤ dim ws) (b : e ≤ dim ws) where
         pub make-held : held ws (key d e) ≡ true → Makes ws d e 14 ws

@@ -7,7 +7,7 @@ ghost use Rattle.rules.specs.Calls.{askNumber, askWords};
 ghost use Rattle.daybook.specs.Answers.{askedNumber};
 
 // Ask in a book whose frame and rows are right. Refusals: 12, 13.
-pub fn ask_right(book: &mut [u32], d: u32, e: u32) -> Asked
+pub(crate) fn ask_right(book: &mut [u32], d: u32, e: u32) -> Asked
     requires { ⌜ (frameRight (now book) ≡ true) × (rowsRight (now book) ≡ true) ⌝ }
     ensures number { λ r. ⌜ askedNumber r ≡ askNumber (now (book .entry)) d e ⌝ }
     ensures words { λ r. ⌜ now (book .exit) ≡ askWords (now (book .entry)) d e ⌝ }
