@@ -5,6 +5,7 @@
 #include <chrono>
 #include <cstdio>
 #include <cstdlib>
+#include <cstring>
 #include <string>
 
 using Mesh = std::vector<std::vector<uint32_t>>;
@@ -182,6 +183,50 @@ static void compare_files(const Named &m) {
     must(ours == theirs && length == ours.size(), "the two programs write different files");
 }
 
+// Counts all over the turn; about each sixteenth is masked, and as many are 0 or -32,768, so that there are steps of 0 and of half a turn.
+static std::vector<int32_t> counts_of(const Named &m) {
+    uint32_t last = 7;
+    std::vector<int32_t> out(m.points);
+    for (int32_t &count : out) {
+        last = last * 1664525u + 1013904223u;
+        uint32_t kind = last >> 8 & 31;
+        count = kind < 2 ? DAYBOOK_MASKED : kind == 2 ? 0 : kind == 3 ? -32768 : int32_t(last >> 16) - 32768;
+    }
+    return out;
+}
+
+// The lists that phase closures write, as long as a book asks, with other values in them.
+struct Lists {
+    std::vector<int32_t> closures;
+    std::vector<double> steps;
+    std::vector<uint8_t> masked;
+    Lists(size_t faces, size_t edges) : closures(faces, 7), steps(edges, 7), masked(edges, 7) {}
+};
+
+// The two programs wrote the same, the floats held to each other by their bits.
+static bool same(const Lists &a, const Lists &b) {
+    return a.closures == b.closures && a.masked == b.masked && std::memcmp(a.steps.data(), b.steps.data(), a.steps.size() * sizeof(double)) == 0;
+}
+
+// Phase closures of a mesh, in a book that holds D->0, 1->0 and 2->0, of the words that they take.
+static void compare_closures(const Named &m) {
+    const std::vector<std::pair<unsigned, unsigned>> needed = {{1, 0}, {2, 0}};
+    const size_t room = book_with(m, needed)[4];
+    const auto book = book_with(m, needed, room);
+    plain::Book plainly = loaded(m);
+    for (auto a : needed) must(plain::ask(plainly, a.first, a.second), "plain ask");
+    const auto counts = counts_of(m);
+    Lists ours(plainly.counts[2], plainly.counts[1]), theirs = ours;
+    auto nothing = [] { return 0; };
+    auto close = [&](int) {
+        must(daybook_closures(book.data(), room, counts.data(), counts.size(), ours.closures.data(), ours.closures.size(), ours.steps.data(), ours.steps.size(),
+                              ours.masked.data(), ours.masked.size()) == 0, "closures");
+    };
+    auto close_plainly = [&](int) { must(plain::closures(plainly, counts, theirs.closures, theirs.steps, theirs.masked), "plain closures"); };
+    line(m, "closures", room, best(nothing, close, 9), best(nothing, close_plainly, 9));
+    must(same(ours, theirs), "the two programs write different closures");
+}
+
 // A call on a book of so many words that holds all relations, a million times; the time of one. Each program gives a number for the k-th, and their sums agree.
 template <class Ours, class Theirs> void compare_calls(const Named &m, const std::string &what, size_t words, Ours ours, Theirs theirs) {
     const uint32_t calls = 1000000;
@@ -255,10 +300,13 @@ int main() {
         compare(m, "asks", {}, every, 0, m.level ? 5 : 3);
         compare(m, "list", {}, every, 0, m.level ? 5 : 3, true);
     }
+    // phase closures, on a book that holds just what they need
+    for (const Named &m : meshes) compare_closures(m);
     // from a sixteenth of the size to the whole
     for (unsigned n : {11, 22, 45}) compare(sheet(n), "all", {}, relations(sheet(n)), 0, 5);
     for (unsigned k : {1, 2, 5, 10}) compare(box(8, 8, k), "all", {}, relations(box(8, 8, k)), 0, 5);
     for (unsigned n : {256, 1024, 4096}) compare(scattered(n, 2 * n), "all", {}, relations(scattered(n, 2 * n)), 0, 5);
+    for (unsigned n : {11, 22, 45}) compare_closures(sheet(n));
     // what a lent word costs that no relation needs
     for (size_t spare : {0, 1 << 18, 1 << 20}) compare(sheet(45), "0->2", {}, {{0, 2}}, spare, 5);
     // what a row or a search in one costs does not depend on the book

@@ -10,11 +10,14 @@
  *   'T' d e                 every row of d→e until one is refused; behind the answer, for each row, its length and its words
  *   'W' n, n bytes          write to a buffer with these bytes
  *   'E', 'H'                Euler number, held count
+ *   'P' n f s m, the lists  phase closures: n counts, and f closures, s steps (8 bytes each) and m bytes as they are before it
  *   'C'                     a checksum only
  *
  * An answer: the call's number (4 bytes), two out places (8 bytes each; they hold OUT before the call),
  * checksums of the book and of the byte buffer (4 bytes each), and 1 where every guard still stands (4 bytes).
  * For a list of asks the byte buffer is the answers, and the first out place a checksum of the pairs.
+ * For phase closures the byte buffer is the masked bytes, the first out place a checksum of the counts, and the
+ * second those of the closures (its lower half) and of the steps (its upper half).
  */
 #include "daybook.h"
 #include <stdio.h>
@@ -70,12 +73,19 @@ static uint32_t number(void) {
     return x;
 }
 
+/* Lends size bytes anew, as they come on standard input. */
+static void take(struct lent *l, size_t size) {
+    free(l->whole);
+    *l = lend(size);
+    get(at(*l), size);
+}
+
 int main(void) {
     struct lent book = lend(0);
     int call;
     crc_table();
     while ((call = getchar()) != EOF) {
-        struct lent bytes = lend(0), pairs = lend(0);
+        struct lent bytes = lend(0), pairs = lend(0), counts = lend(0), closures = lend(0), steps = lend(0);
         uint64_t out[2] = {OUT, OUT};
         uint32_t given = 0, d = 0, e = 0, i;
         uint32_t *words = (uint32_t *)at(book);
@@ -83,15 +93,11 @@ int main(void) {
         switch (call) {
         case 'B':
             i = number();
-            free(book.whole);
-            book = lend((size_t)i * 4);
-            get(at(book), book.size);
+            take(&book, (size_t)i * 4);
             break;
         case 'L':
             i = number();
-            free(bytes.whole);
-            bytes = lend(i);
-            get(at(bytes), i);
+            take(&bytes, i);
             given = daybook_load(at(bytes), i, words, n, (uint32_t *)out);
             break;
         case 'M':
@@ -104,9 +110,7 @@ int main(void) {
             break;
         case 'Q':
             d = number(), e = number();
-            free(pairs.whole), free(bytes.whole);
-            pairs = lend((size_t)d * 4), bytes = lend((size_t)e * 4);
-            get(at(pairs), pairs.size), get(at(bytes), bytes.size);
+            take(&pairs, (size_t)d * 4), take(&bytes, (size_t)e * 4);
             given = daybook_ask_list(words, n, (uint32_t *)at(pairs), d, (uint32_t *)at(bytes), e);
             out[0] = crc(at(pairs), pairs.size);
             break;
@@ -138,9 +142,7 @@ int main(void) {
             size_t length;
             memcpy(&length, out, sizeof length);
             i = number();
-            free(bytes.whole);
-            bytes = lend(i);
-            get(at(bytes), i);
+            take(&bytes, i);
             given = daybook_write(words, n, at(bytes), i, &length);
             memcpy(out, &length, sizeof length);
             break;
@@ -151,12 +153,22 @@ int main(void) {
         case 'H':
             given = daybook_held_count(words, n, (uint32_t *)out);
             break;
+        case 'P': {
+            uint32_t m;
+            d = number(), e = number(), i = number(), m = number();
+            take(&counts, (size_t)d * 4), take(&closures, (size_t)e * 4), take(&steps, (size_t)i * 8), take(&bytes, m);
+            given = daybook_closures(words, n, (int32_t *)at(counts), d, (int32_t *)at(closures), e, (double *)at(steps), i, at(bytes), m);
+            out[0] = crc(at(counts), counts.size);
+            out[1] = crc(at(closures), closures.size) | (uint64_t)crc(at(steps), steps.size) << 32;
+            break;
+        }
         case 'C':
             break;
         default:
             return 2;
         }
-        uint32_t rest[3] = {crc(at(book), book.size), crc(at(bytes), bytes.size), stands(book) & stands(bytes) & stands(pairs)};
+        uint32_t stand = stands(book) & stands(bytes) & stands(pairs) & stands(counts) & stands(closures) & stands(steps);
+        uint32_t rest[3] = {crc(at(book), book.size), crc(at(bytes), bytes.size), stand};
         fwrite(&given, 4, 1, stdout);
         fwrite(out, 8, 2, stdout);
         fwrite(rest, 4, 3, stdout);
@@ -168,8 +180,8 @@ int main(void) {
             fwrite(words + start, 4, count, stdout);
         }
         fflush(stdout);
-        free(bytes.whole);
-        free(pairs.whole);
+        free(bytes.whole), free(pairs.whole);
+        free(counts.whole), free(closures.whole), free(steps.whole);
     }
     free(book.whole);
     return 0;

@@ -14,7 +14,7 @@
 #include <sys/mman.h>
 #include <unistd.h>
 
-enum { STACK = 1 << 20, PROMISED = 512 << 10, LITTLE = 16 << 10, THREADS = 8, ROUNDS = 6, CALLS = 9 };
+enum { STACK = 1 << 20, PROMISED = 512 << 10, LITTLE = 16 << 10, THREADS = 8, ROUNDS = 6, CALLS = 10 };
 
 static void fail(const char *what) {
     printf("not as the header says: %s\n", what);
@@ -154,6 +154,22 @@ struct call {
     uint32_t number;
 };
 
+/* The lists of phase closures, as long as a mesh of the full size asks. */
+static int32_t counts[8192], closures[4 * 4096];
+static double steps[6 * 4096];
+static uint8_t masked[6 * 4096];
+
+/* Counts all over the turn, each sixteenth masked. */
+static void fill_counts(void) {
+    for (uint32_t k = 0; k < 8192; k++) counts[k] = k % 16 ? (int32_t)(k * 40503 % 65536) - 32768 : DAYBOOK_MASKED;
+}
+
+/* Phase closures with lists as long as the book asks; word 3 has the number of faces for tetrahedra, and for triangles the faces are the cells. */
+static uint32_t closures_of(const uint32_t *book, size_t words) {
+    size_t faces = book[0] >> 30 == 3 ? book[3] : book[0] >> 3 & 0x1FFF;
+    return daybook_closures(book, words, counts, book[0] >> 16 & 0x3FFF, closures, faces, steps, book[2], masked, book[2]);
+}
+
 static void *make_call(void *place) {
     struct call *c = place;
     uint32_t cell = 0, count = 0, yes = 0;
@@ -171,6 +187,7 @@ static void *make_call(void *place) {
     case 6: c->number = daybook_held_count(c->book, c->words, &count); break;
     case 7: c->number = daybook_find(c->book, c->words, c->d, c->e, 0, 0, &yes, &length); break;
     case 8: c->number = daybook_ask_list(c->book, c->words, pair, 2, &yes, 1) | yes; break;
+    case 9: c->number = closures_of(c->book, c->words); break;
     default: break;
     }
     return NULL;
@@ -203,8 +220,11 @@ static void measure(struct mesh m) {
             for (c.e = 0; c.e <= m.dim; c.e++) {
                 /* make and a list of asks are measured on a book that holds nothing but D -> 0 yet */
                 if (c.which == 2 || c.which == 8) daybook_load(file, c.size, c.book, c.words, &c.number);
+                /* phase closures on one that holds 1 -> 0 and 2 -> 0; intervals have no faces, and are refused */
+                if (c.which == 9 && c.d == 0 && c.e == 0) daybook_ask(c.book, c.words, 1, 0), daybook_ask(c.book, c.words, 2, 0);
+                uint32_t due = c.which == 9 && m.dim == 1 ? DAYBOOK_DIMENSION_OVER : DAYBOOK_ACCEPTED;
                 size_t used = painted(&c) - bare;
-                if (c.which != 2 && c.number) fail("a call that should be accepted");
+                if (c.which != 2 && c.number != due) fail("the number that a call gives");
                 if (used > most[c.which]) most[c.which] = used;
                 if (c.which == 2) daybook_ask(c.book, c.words, c.d, c.e);
                 if (c.which == 2)
@@ -305,7 +325,7 @@ static void side_by_side(void) {
 
 int main(void) {
     setvbuf(stdout, NULL, _IOLBF, 0);
-    static const char *names[] = {"load", "ask", "make", "row", "write", "euler", "held_count", "find", "ask_list"};
+    static const char *names[] = {"load", "ask", "make", "row", "write", "euler", "held_count", "find", "ask_list", "closures"};
     enough("a sheet of 3,698 triangles", sheet(44));
     enough("two stacked scans of 4,056 tetrahedra", stacked(27));
     enough("a chain of 4,096 intervals", chain(4096));
@@ -316,6 +336,7 @@ int main(void) {
     enough("a fan of 300 triangles", fan(300));
     for (unsigned dim = 1; dim <= 3; dim++) enough("random cells on few vertices", random_cells(dim, 8, 250));
     for (unsigned dim = 1; dim <= 3; dim++) enough("random cells on many vertices", random_cells(dim, 900, 250));
+    fill_counts();
     measure(sheet(45));
     measure(stacked(27));
     measure(random_cells(3, 8192, 4096));

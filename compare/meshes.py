@@ -112,6 +112,8 @@ def lying_book(rng, room):
     D = rng.choice((1, 2, 2, 3, 3))
     points, cells = rng.choice((4, 5, 7)), rng.choice((0, 1, 2, 4))
     held = {(D, 0)}
+    if rng.random() < 0.4:
+        held |= {(d, 0) for d in range(1, D)}
     for _ in range(rng.randrange(9)):
         d, e = rng.randrange(D + 1), rng.randrange(D + 1)
         if all(n in held for n in rules.needs(D, d, e)):

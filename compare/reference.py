@@ -5,6 +5,8 @@ where the library takes the quick one, so that a mistake has to be made twice to
 A file is a bytes object, a book a list of numbers below 2^32 that the calls change in place.
 """
 
+from fractions import Fraction
+
 KEYS = range(16)
 
 
@@ -345,3 +347,51 @@ def held_count(book):
     if frame is None:
         return 10, 0
     return 0, len(frame.held)
+
+
+# ---- phase closures: counts are 65,536ths of a turn
+
+TURN = MASKED = 65536
+
+
+def may_be_lent(count):
+    return -32768 <= count <= 32767 or count == MASKED
+
+
+def step(lower, higher):
+    """The step in 65,536ths between two counts, by whole numbers alone; None where an end is masked."""
+    if MASKED in (lower, higher):
+        return None
+    return (higher - lower + TURN // 2) % TURN - TURN // 2
+
+
+def closure(a, b, c):
+    """The closure of a face's counts in turns, 2 where an end is masked."""
+    if MASKED in (a, b, c):
+        return 2
+    whole, rest = divmod(step(a, b) + step(b, c) - step(a, c), TURN)
+    assert rest == 0
+    return whole
+
+
+def closures(book, counts, faces, steps, masked):
+    """The number; faces gets the closures, steps fractions of a turn, masked 1 or 0."""
+    frame = Frame.of(book)
+    if frame is None:
+        return 10
+    if not frame.rows_right():
+        return 11
+    if frame.D == 1:
+        return 12
+    if not {(1, 0), (2, 0)} <= frame.held:
+        return 15
+    if [len(counts), len(faces), len(steps), len(masked)] != [frame.counts[d] for d in (0, 2, 1, 1)]:
+        return 21
+    if not all(map(may_be_lent, counts)):
+        return 22
+    for i, row in enumerate(frame.rows(2, 0)):
+        faces[i] = closure(*(counts[v] for v in row))
+    for i, row in enumerate(frame.rows(1, 0)):
+        taken = step(*(counts[v] for v in row))
+        steps[i], masked[i] = Fraction(taken or 0, TURN), int(taken is None)
+    return 0

@@ -1,9 +1,10 @@
 """Random sequences of calls, through the C interface and through reference.py: every answer, every lent
-word and byte, and every guard word must agree.
+word, byte and float (by its bits), and every guard word must agree.
 
     python3 compare/run.py [--calls N] [--seed S] [--full]
 
---full adds meshes of the full size. It prints, for each call, how often each number was given, and the seed.
+--full adds meshes of the full size. It prints, for each call, how often each number was given, how often each
+answer of a list of asks and each closure of a face was written, and the seed.
 """
 
 import argparse
@@ -15,6 +16,7 @@ import struct
 import subprocess
 import sys
 import zlib
+from fractions import Fraction
 
 HERE = os.path.dirname(os.path.abspath(__file__))
 TOP = os.path.dirname(HERE)
@@ -25,6 +27,8 @@ import reference as rules  # noqa: E402
 
 OUT = 0xA5A5A5A5A5A5A5A5
 LOW = 0xFFFFFFFF00000000
+OUTSIDE = (-32769, 32768, 65535, 65537, 98304, 131072, -65536, 2 ** 31 - 1, -2 ** 31)  # what no count may be
+ODD_FLOATS = [struct.pack("<Q", bits) for bits in (0, 1 << 63, 0x7FF8 << 48, 0xFFF0 << 48 | 1)]  # 0.0, -0.0 and two NaNs
 
 
 def tools():
@@ -83,6 +87,15 @@ def packed(words):
 
 def checksum(words):
     return zlib.crc32(packed(words))
+
+
+def signed(numbers):
+    return struct.pack("<%di" % len(numbers), *numbers)
+
+
+def floats(steps):
+    """The bytes of a list of steps: those that were there before the call, or a fraction's, which a float holds exactly."""
+    return b"".join(step if isinstance(step, bytes) else struct.pack("<d", float(step)) for step in steps)
 
 
 class Runs:
@@ -170,6 +183,19 @@ class Runs:
         number, count = rules.held_count(self.book)
         self.check("held_count", b"H", number, OUT if number else OUT & LOW | count, OUT)
 
+    def closures(self, counts, faces, steps, masked):
+        """The call's number, and the three lists after it; a step is 8 bytes, or a fraction where it was written."""
+        self.past = self.book
+        sizes = [len(counts), len(faces), len(steps), len(masked)]
+        text = b"P" + packed(sizes) + signed(counts) + signed(faces) + floats(steps) + bytes(masked)
+        faces, steps, masked = list(faces), list(steps), list(masked)
+        number = rules.closures(self.book, counts, faces, steps, masked)
+        second = zlib.crc32(signed(faces)) | zlib.crc32(floats(steps)) << 32
+        self.check("closures", text, number, zlib.crc32(signed(counts)), second, bytes(masked), (sizes, counts[:200]))
+        for face in faces if number == 0 else []:
+            self.count("its closures", face)
+        return number, faces, steps, masked
+
     def dimension(self):
         return self.rng.choice((0, 0, 1, 1, 2, 2, 3, 3, 4, 0xFFFFFFFF)) if self.rng.random() < 0.2 else self.rng.randrange(4)
 
@@ -226,6 +252,37 @@ class Runs:
             answers = answers[1:]
         self.ask_list(pairs, answers)
 
+    def some_counts(self, points):
+        """A count for each point: any, all the same, or some that lie half a turn apart or one beside it; at times masked ones among them."""
+        rng, first = self.rng, self.rng.randrange(-32768, 32768)
+        near = [(first + apart + 32768) % 65536 - 32768 for apart in (0, 1, 32767, 32768, 32769)]
+        among = rng.choice((range(-32768, 32768), [first], near, near))
+        masked = rng.choice((0, 0, 0, 0.1, 0.4, 1))
+        return [rules.MASKED if rng.random() < masked else rng.choice(among) for _ in range(points)]
+
+    def unwritten(self, faces, steps, masked):
+        """Lists of these lengths for closures, steps and masked bytes, with any bits."""
+        rng = self.rng
+        numbers = struct.unpack("<%di" % faces, rng.randbytes(4 * faces))
+        return list(numbers), [rng.choice(ODD_FLOATS + [rng.randbytes(8)]) for _ in range(steps)], list(rng.randbytes(masked))
+
+    def lengths(self):
+        """The lengths of the four lists of phase closures, as far as the book says them."""
+        frame = rules.Frame.of(self.book)
+        known = frame.counts if frame else {}
+        return [known.get(d, self.rng.randrange(4)) for d in (0, 2, 1, 1)]
+
+    def some_closures(self):
+        """Phase closures, mostly with right lengths and counts, or with a list one too long or too short, a count outside, or both."""
+        rng, sizes = self.rng, self.lengths()
+        if rng.random() < 0.15:
+            which = rng.randrange(4)
+            sizes[which] = max(0, sizes[which] + rng.choice((1, -1)))
+        counts = self.some_counts(sizes[0])
+        if counts and rng.random() < 0.15:
+            counts[rng.randrange(len(counts))] = rng.choice(OUTSIDE)
+        self.closures(counts, *self.unwritten(*sizes[1:]))
+
     def step(self, made):
         rng = self.rng
         if rng.random() < made:
@@ -234,6 +291,8 @@ class Runs:
                 self.some_asks()
             else:
                 self.relation(way, self.dimension(), self.dimension())
+        elif rng.random() < 0.1:
+            self.some_closures()
         else:
             self.look()
 
@@ -269,6 +328,21 @@ class Runs:
         for _ in range(rng.randrange(1, 6)):
             self.step(0.5)
 
+    def phase_run(self):
+        """Phase closures on a book that holds edges and faces, true or lying ones, or has not the room for them, at times with a word changed."""
+        rng = self.rng
+        if rng.random() < 0.5:
+            self.use([7] * 900)
+            self.load(rules.file_bytes(*meshes.random_mesh(rng, rng.choice((2, 3)), rng.choice((4, 6, 8, 12)), rng.choice((0, 1, 2, 5, 14)))))
+        else:
+            self.use(meshes.lying_book(rng, 300))
+        for d in (1, 2):
+            self.relation("ask", d, 0)
+        if rng.random() < 0.1:
+            self.use(meshes.worn_book(rng, self.book))
+        for _ in range(8):
+            self.some_closures()
+
     def full_size(self):
         """Meshes of the full size, those of bench/ among them: whole, and one vertex, one cell or one word too many."""
         rng = self.rng
@@ -292,6 +366,7 @@ class Runs:
             self.euler()
             self.held_count()
         self.lists_of_full_size()
+        self.closures_of_full_size()
         many = bytearray(rules.file_bytes(*whole))
         for at in (0, 2):
             more = bytearray(many)
@@ -306,6 +381,24 @@ class Runs:
                 self.use([0xFFFFFFFF] * room)
                 self.load(rules.file_bytes(*mesh))
                 self.ask_list(pairs, [0xFFFFFFFF] * (len(pairs) // 2))
+
+    def closures_of_full_size(self):
+        """Phase closures of the four meshes of bench/: any counts, masked ones among them, one outside, and each list one too long or too short."""
+        rng = self.rng
+        for mesh in (meshes.sheet(46, 46), meshes.box(8, 8, 10), meshes.scattered(4096, 8192), meshes.fan(4098)):
+            self.use([0xFFFFFFFF] * 200000)
+            self.load(rules.file_bytes(*mesh))
+            for d in (1, 2):
+                self.relation("ask", d, 0)
+            sizes = self.lengths()
+            counts = [rng.randrange(-32768, 32768) for _ in range(sizes[0])]
+            some_masked = [rules.MASKED if rng.random() < 0.05 else count for count in counts]
+            for lent in (counts, some_masked, self.some_counts(sizes[0]), counts[:-1] + [rng.choice(OUTSIDE)]):
+                self.closures(lent, *self.unwritten(*sizes[1:]))
+            for which in range(4):
+                off = list(sizes)
+                off[which] += rng.choice((1, -1))
+                self.closures((counts + [0])[:off[0]], *self.unwritten(*off[1:]))
 
     def demand(self, what, got, wanted):
         if got != wanted:
@@ -322,7 +415,7 @@ class Runs:
             out.append(self.book[start : start + count])
 
     def examples(self):
-        """Examples by hand, whose numbers stand here as they were worked out: 10 and 11 of the paper, searches, and lists of asks."""
+        """Examples by hand, whose numbers stand here as they were worked out: 10 and 11 of the paper, searches, lists of asks, and phase closures."""
         t = rules.file_bytes(2, 4, [[0, 1, 3], [1, 2, 3]])
         for room, number in ((54, 0), (53, 13)):
             self.use([7] * room)
@@ -341,6 +434,9 @@ class Runs:
         self.demand("Euler number", rules.euler(self.book), (0, 1))
         self.searches(t)
         self.lists(t)
+        self.phases(t)
+        self.phases_refused(t)
+        self.phases_cancel()
 
     def searches(self, t):
         """Row 1 of 0→1 of T is 0 2 3, searched; each refusal; and the row with its words changed, so that it does not ascend."""
@@ -377,16 +473,94 @@ class Runs:
             self.demand("each answer %d" % number, self.ask_list([2, 1, 9, 9], [9] * 2), (0, [number, number or 12]))
             self.demand("no pairs at all", self.ask_list([], []), (0, []))
 
+    def written(self, counts, faces, steps, masked):
+        """Phase closures that write these closures, steps in 65,536ths, and masked bytes."""
+        given = self.closures(counts, *self.unwritten(len(faces), len(steps), len(masked)))
+        self.demand("closures of %s" % counts, given, (0, faces, [Fraction(step, 65536) for step in steps], masked))
+
+    def refused(self, number, counts, faces, steps, masked):
+        """Phase closures with lists of these lengths that are refused, and the lists stay as they were."""
+        lists = self.unwritten(faces, steps, masked)
+        self.demand("closures of %s" % counts, self.closures(counts, *lists), (number,) + lists)
+
+    def phases(self, t):
+        """The edges of T are 0 1, 0 3, 1 3, 1 2, 2 3, its faces 0 1 3 and 1 2 3: each closure, half a turn up and down and one beside it, masked points,
+        and a book that has 0 2 for the first edge."""
+        self.use([7] * 60)
+        self.load(t)
+        self.demand("edges", self.relation("ask", 1, 0), 0)
+        self.written([0, 20000, -20000, 10000], [0, 1], [20000, 10000, -10000, 25536, 30000], [0] * 5)
+        self.written([0, 24576, 4096, -16384], [1, -1], [24576, -16384, 24576, -20480, -20480], [0] * 5)
+        self.written([-32768, 0, 32767, -32768], [-1, 1], [-32768, 0, -32768, 32767, 1], [0] * 5)
+        self.written([-16384, 16385, -16384, -16383], [-1, 1], [-32767, 1, -32768, 32767, 1], [0] * 5)
+        self.written([-32768, 32767, 0, 32767], [0, 0], [-1, -1, 0, -32767, 32767], [0] * 5)
+        self.written([5] * 4, [0, 0], [0] * 5, [0] * 5)
+        self.written([65536, 20000, -20000, 10000], [2, 1], [0, 0, -10000, 25536, 30000], [1, 1, 0, 0, 0])
+        self.written([0, 20000, 65536, 10000], [0, 2], [20000, 10000, -10000, 0, 0], [0, 0, 0, 1, 1])
+        self.written([0, 20000, -20000, 65536], [2, 2], [20000, 0, 0, 25536, 0], [0, 1, 1, 0, 1])
+        self.written([65536] * 4, [2, 2], [0] * 5, [1] * 5)
+        self.use(self.book[:12] + [2] + self.book[13:])
+        self.written([0, 20000, -20000, 10000], [0, 1], [-20000, 10000, -10000, 25536, 30000], [0] * 5)
+        self.demand("the bits of -0.5 and 0.0", floats([Fraction(-1, 2), Fraction(0)]).hex(), "000000000000e0bf" + "0" * 16)
+
+    def phases_refused(self, t):
+        """Each refusal of phase closures and what it goes before: books broken, intervals, edges or faces missing, lengths, counts; and no cells at all."""
+        self.use([7] * 60)
+        self.load(t)
+        self.refused(15, [32768], 0, 0, 0)
+        self.relation("ask", 1, 0)
+        right, counts = list(self.book), [1, 2, 3, 4, 5]
+        for sizes in ((3, 2, 5, 5), (5, 2, 5, 5), (4, 1, 5, 5), (4, 3, 5, 5), (4, 2, 4, 5), (4, 2, 6, 5), (4, 2, 5, 4), (4, 2, 5, 6), (4, 5, 2, 2), (0, 0, 0, 0)):
+            self.refused(21, counts[:sizes[0]], *sizes[1:])
+            self.refused(21, [32768] * sizes[0], *sizes[1:])
+        for place in range(4):
+            for count in OUTSIDE:
+                self.refused(22, counts[:place] + [count] + counts[place + 1:4], 2, 5, 5)
+        for broken, number in (([0] + right[1:], 10), ([], 10), (right[:-1] + [9], 11)):
+            self.use(broken)
+            self.refused(number, counts[:4], 2, 5, 5)
+            self.refused(number, [32768], 0, 0, 0)
+        self.use([7] * 30)
+        self.load(rules.file_bytes(1, 2, [[0, 1]]))
+        self.refused(12, [1, 2], 0, 1, 1)
+        self.refused(12, [32768], 0, 0, 0)
+        self.use(self.book[:-1] + [9])
+        self.refused(11, [1, 2], 0, 1, 1)
+        self.use([7] * 30)
+        self.load(rules.file_bytes(2, 1, []))
+        self.relation("ask", 1, 0)
+        self.written([9], [], [], [])
+        self.refused(22, [65535], 0, 0, 0)
+
+    def phases_cancel(self):
+        """The faces of a tetrahedron are 0 1 2, 0 1 3, 0 2 3, 1 2 3, and the closures of the second and fourth less those of the first and third are 0."""
+        for order in ((1, 2), (2, 1)):
+            self.use([7] * 80)
+            self.load(rules.file_bytes(3, 4, [[3, 1, 0, 2]]))
+            for d in order:
+                self.refused(15, [0] * 4, 4, 6, 6)
+                self.demand("edges or faces", self.relation("ask", d, 0), 0)
+        self.written([0, 24576, -16384, 8192], [1, 0, 0, 1], [24576, -16384, 8192, 24576, -16384, 24576], [0] * 6)
+        self.written([0, 24576, 8192, -16384], [0, 1, 0, -1], [24576, 8192, -16384, -16384, 24576, -24576], [0] * 6)
+        self.written([0, 24576, -16384, 65536], [1, 2, 2, 2], [24576, -16384, 0, 24576, 0, 0], [0, 0, 1, 0, 1, 1])
+        for _ in range(20):
+            counts = [self.rng.randrange(-32768, 32768) for _ in range(4)]
+            first, second, third, fourth = self.closures(counts, *self.unwritten(4, 6, 6))[1]
+            self.demand("closures around a tetrahedron", fourth - third + second - first, 0)
+
     def run(self, full):
         self.examples()
         if full:
             self.full_size()
         while self.left > 0:
             self.sequences += 1
-            if self.rng.random() < 0.6:
+            way = self.rng.random()
+            if way < 0.5:
                 self.true_run()
-            else:
+            elif way < 0.85:
                 self.strange_run()
+            else:
+                self.phase_run()
 
 
 def main():
@@ -398,7 +572,7 @@ def main():
     runs = Runs(given.seed, Library(built()), given.calls)
     runs.run(given.full)
     for name, row in runs.table.items():
-        print("%-11s %s" % (name, "  ".join("%d: %d" % (n, row[n]) for n in sorted(row))))
+        print("%-12s %s" % (name, "  ".join("%d: %d" % (n, row[n]) for n in sorted(row))))
     print("compare: %d calls in %d sequences agree, seed %d" % (runs.made, runs.sequences, given.seed))
 
 

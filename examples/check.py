@@ -1,5 +1,5 @@
-"""Tests mesh.py: it makes the example files as they stand here, its pictures count the edges as the separate program
-does, and Gmsh files come out as the bytes written below, or with one line that says what is wrong.
+"""Tests mesh.py: it makes the example files as they stand here, its pictures count the edges and colour the triangles as the
+separate program does, and Gmsh files come out as the bytes written below, or with one line that says what is wrong.
 
     python3 examples/check.py
 """
@@ -13,9 +13,12 @@ from xml.dom import minidom
 HERE = os.path.dirname(os.path.abspath(__file__))
 sys.path.insert(0, os.path.join(os.path.dirname(HERE), "compare"))
 
+import phases  # noqa: E402
 import reference as rules  # noqa: E402
+import shapes  # noqa: E402
 
-NAMES = ("t", "dam", "stack")
+FILES = ("t.day", "t.xy", "dam.day", "dam.xy", "dam.counts", "stack.day", "stack.xy")
+COLOURS = {"minus": -1, "cells": 0, "plus": 1, "masked": 2}
 T = bytes.fromhex("80040010 0000004006001001000c")
 TETRAHEDRON = bytes.fromhex("c0040008 00180040000020")
 
@@ -142,9 +145,8 @@ def put(path, data):
 
 def made(folder):
     demand("make ends", run("make", "--to", folder)[0], 0)
-    for name in NAMES:
-        for kind in (".day", ".xy"):
-            demand(name + kind + " is what make writes", contents(folder, name + kind) == contents(HERE, name + kind), True)
+    for name in FILES:
+        demand(name + " is what make writes", contents(folder, name) == contents(HERE, name), True)
     demand("T", contents(folder, "t.day"), T)
 
 
@@ -160,6 +162,25 @@ def incidence(day):
     return [frame.counts[d] for d in range(D + 1)], kinds
 
 
+def closures(day, counts):
+    """Each face's closure, and for each edge whether it is masked, by the separate program."""
+    book = [0] * (1 << 18)
+    demand("load", rules.load(contents(day), book), (0, None))
+    demand("ask", [rules.ask(book, d, 0) for d in (1, 2)], [0, 0])
+    sizes = rules.Frame.of(book).counts
+    faces, steps, masked = [[None] * sizes[d] for d in (2, 1, 1)]
+    demand("closures", rules.closures(book, counts, faces, steps, masked), 0)
+    return faces, masked
+
+
+def parts(svg):
+    """The picture's texts, its rings by their class, and its paths by their names."""
+    page = minidom.parse(svg)
+    texts = [text.firstChild.data for text in page.getElementsByTagName("text")]
+    rings = [ring.getAttribute("class") for ring in page.getElementsByTagName("circle") if ring.getAttribute("class")]
+    return texts, rings, {path.getAttribute("id"): path.getAttribute("d") for path in page.getElementsByTagName("path")}
+
+
 def pictures(folder):
     for name, euler in (("t", 1), ("dam", -1), ("stack", 1)):
         day = os.path.join(HERE, name + ".day")
@@ -170,19 +191,56 @@ def pictures(folder):
             words = ["--xy", os.path.join(HERE, name + ".xy")] if with_xy else []
             demand("draw " + name, run("draw", day, svg, *words), (0, "", ""))
             demand(name + ".svg is short", len(contents(svg)) < 500000, True)
-            page = minidom.parse(svg)
-            paths = {path.getAttribute("id"): path.getAttribute("d") for path in page.getElementsByTagName("path")}
+            texts, rings, paths = parts(svg)
             demand("edges of %s by colour" % name, {kind: paths[kind].count("M") for kind in kinds}, kinds)
+            demand("%s without counts has no colours of closures" % name, [rings, set(paths) & {"minus", "plus", "masked"}], [[], set()])
             D = len(counts) - 1
             if D == 2:
                 demand("cells of " + name, paths["cells"].count("Z"), counts[2])
             title = "%s.day: D = %d, N₀ = %d, N₁ = %d, N%s = %d" % (name, D, counts[0], counts[1], "₂₃"[D - 2], counts[D])
-            texts = [text.firstChild.data for text in page.getElementsByTagName("text")]
             demand("title of " + name, texts[0], title)
             words = [text.split(": ")[1].split()[0] for text in texts[-3:]]
             demand("legend of " + name, words, [str(kinds[kind]) for kind in ("one", "two", "more")])
-            if with_xy and name != "stack":
-                demand(name + ".svg is what draw writes", contents(svg) == contents(HERE, name + ".svg"), True)
+            if with_xy and name == "t":
+                demand("t.svg is what draw writes", contents(svg) == contents(HERE, "t.svg"), True)
+
+
+def coloured(folder, day, words, counts):
+    """Draws with and without counts, demands that each triangle has the colour of its closure, and gives texts and rings."""
+    plain, svg = [os.path.join(folder, name) for name in ("plain.svg", "closures.svg")]
+    beside = put(os.path.join(folder, "in.counts"), "".join("%d\n" % count for count in counts))
+    demand("draw", [run("draw", day, plain, *words), run("draw", day, svg, "--counts", beside, *words)], [(0, "", "")] * 2)
+    triangles = parts(plain)[2]["cells"].split("Z")[:-1]
+    faces = closures(day, counts)[0]
+    texts, rings, paths = parts(svg)
+    for colour, closure in COLOURS.items():
+        wanted = [triangle for triangle, other in zip(triangles, faces) if other == closure]
+        demand("triangles of the colour " + colour, paths[colour].split("Z")[:-1], wanted)
+    legend = [text.split(": ")[1].split()[0] for text in texts[-7:-3]]
+    demand("legend of closures", legend, [str(faces.count(closure)) for closure in COLOURS.values()])
+    return texts, rings
+
+
+def closure_pictures(folder):
+    """T by hand, and the dam with the numbers that README.md shows."""
+    t, dam = [os.path.join(HERE, name) for name in ("t.day", "dam.day")]
+    for counts, wanted in (((0, 21846, 0, -21846), [1, -1]), ((0, -21846, 65536, 21846), [-1, 2]), ((-32768, 32767, 0, -32768), [0, -1])):
+        demand("closures of T", closures(t, counts)[0], wanted)
+        demand("rings of T", coloured(folder, t, [], counts)[1], [])
+    xy = ["--xy", os.path.join(HERE, "dam.xy")]
+    demand("rings where residues are many", coloured(folder, dam, xy, [32767 - v * v % 65536 for v in range(1956)])[1], [])
+    counts = [int(line) for line in contents(HERE, "dam.counts").split()]
+    faces, masked = closures(dam, counts)
+    signs = [closure for closure in faces if closure in (-1, 1)]
+    texts, rings = coloured(folder, dam, xy, counts)
+    demand("rings of the dam", [COLOURS[ring] for ring in rings], signs)
+    demand("texts of the dam", texts[1:-7], [{-1: "−1", 1: "+1"}[sign] for sign in signs])
+    demand("dam.svg is what draw writes", contents(folder, "closures.svg") == contents(HERE, "dam.svg"), True)
+    shown = "faces: %d, closures -1: %d, 0: %d, +1: %d, masked: %d; edges: %d, masked: %d\n" % (
+        len(faces), faces.count(-1), faces.count(0), faces.count(1), faces.count(2), len(masked), sum(masked))
+    demand("README.md shows the dam's numbers", shown.encode() in contents(HERE, "..", "README.md"), True)
+    demand("the dam has each closure", set(faces), {-1, 0, 1, 2})
+    demand("the dam without slips closes", set(closures(dam, phases.dam(shapes.dam()[1], ()))[0]), {0, 2})
 
 
 def refusals(folder):
@@ -197,6 +255,17 @@ def refusals(folder):
     for text, words in (("0 0\n1 0\n1 1\n", "3 lines for 4 vertices"), ("0 0\n1\n1 1\n0 1\n", "a line is not two numbers"),
                         ("0 0\n1 0\n1 x\n0 1\n", "a line is not two numbers"), ("0 0\n1 0\n1 nan\n0 1\n", "a line is not two numbers")):
         demand("draw", run("draw", put(day, T), svg, "--xy", put(xy, text)), (1, "", "%s: %s\n" % (xy, words)))
+    counts = os.path.join(folder, "bad.counts")
+    whole, outside = "a line is not a whole number", "a number is neither from -32768 to 32767 nor 65536"
+    for text, words in (("0\n1\n2\n", "3 lines for 4 vertices"), ("0\n1\n2\n3\n4\n", "5 lines for 4 vertices"), ("", "0 lines for 4 vertices"),
+                        ("0\n1\nx\n3\n", whole), ("0\n1\n0.5\n3\n", whole), ("0\n1\n\n3\n", whole), ("0\n1 2\n3\n", whole),
+                        (b"0\n1\n\xff\n3\n", whole), ("0\n1\n32768\n3\n", outside), ("0\n1\n-32769\n3\n", outside),
+                        ("0\n65535\n2\n3\n", outside), ("0\n1\n2\n65537\n", outside)):
+        demand("draw", run("draw", put(day, T), svg, "--counts", put(counts, text)), (1, "", "%s: %s\n" % (counts, words)))
+    for D, data in ((1, rules.file_bytes(1, 4, [[0, 1]])), (3, TETRAHEDRON)):
+        said = "%s: D is %d, and only triangles are coloured by their closure\n" % (day, D)
+        demand("draw", run("draw", put(day, data), svg, "--counts", put(counts, "0\n1\n2\n3\n")), (1, "", said))
+    demand("draw", run("draw", put(day, T), svg, "--counts", svg), (1, "", "%s: No such file or directory\n" % svg))
     demand("draw", run("draw", svg, svg), (1, "", "%s: No such file or directory\n" % svg))
     demand("a refused picture is not written", os.path.exists(svg), False)
 
@@ -246,9 +315,10 @@ def main():
     with tempfile.TemporaryDirectory() as folder:
         made(folder)
         pictures(folder)
+        closure_pictures(folder)
         refusals(folder)
         gmsh_files(folder)
-    print("examples: the files are as they are made, the pictures count right, Gmsh files are read or refused as they should be")
+    print("examples: the files are as they are made, the pictures count and colour right, Gmsh files are read or refused as they should be")
 
 
 if __name__ == "__main__":

@@ -3,10 +3,14 @@
 
     python3 examples/mesh.py make
     python3 examples/mesh.py from-msh IN.msh OUT.day [--xy OUT.xy]
-    python3 examples/mesh.py draw FILE.day [--xy FILE.xy] OUT.svg
+    python3 examples/mesh.py draw FILE.day [--xy FILE.xy] [--counts FILE.counts] OUT.svg
 
 A day file has no coordinates. They stand beside it, one line "x y" for each vertex. Where there are none, `draw` lays the
 mesh out by how many edges part two vertices, so that what is far apart along the mesh is far apart in the picture.
+
+Nor has it phases. They stand beside it as counts, one line for each vertex: a whole number of 65,536ths of a turn, from -32768
+to 32767, or 65536 where the vertex is masked. With them `draw` colours each triangle by its closure. The closure's sign is that
+of the way around by ascending vertices, be it clockwise or counterclockwise in the picture.
 """
 
 import argparse
@@ -18,6 +22,7 @@ HERE = os.path.dirname(os.path.abspath(__file__))
 sys.path.insert(0, os.path.join(os.path.dirname(HERE), "compare"))
 
 import msh  # noqa: E402
+import phases  # noqa: E402
 import picture  # noqa: E402
 import reference as rules  # noqa: E402
 import shapes  # noqa: E402
@@ -50,6 +55,10 @@ def make(folder):
         write(path + ".day", rules.file_bytes(*mesh))
         write(path + ".xy", lines_of(places))
         print("%s.day: D = %d, %d vertices, %d cells" % (shape.__name__, mesh[0], mesh[1], len(mesh[2])))
+        if shape is shapes.dam:
+            counts = phases.dam(places)
+            write(path + ".counts", "".join("%d\n" % count for count in counts))
+            print("dam.counts: %d vertices, %d masked" % (len(counts), counts.count(rules.MASKED)))
 
 
 def from_msh(source, day, xy):
@@ -77,11 +86,27 @@ def places_of(path, points):
     return places
 
 
-def draw(day, xy, svg):
+def counts_of(path, points):
+    """The phases that stand beside a day file."""
+    try:
+        counts = [int(line) for line in read(path).decode().splitlines()]
+    except ValueError:
+        sys.exit("%s: a line is not a whole number" % path)
+    if len(counts) != points:
+        sys.exit("%s: %d lines for %d vertices" % (path, len(counts), points))
+    if not all(map(rules.may_be_lent, counts)):
+        sys.exit("%s: a number is neither from -32768 to 32767 nor 65536" % path)
+    return counts
+
+
+def draw(day, xy, counts, svg):
     number, cell, mesh = rules.read_file(read(day))
     if number:
         sys.exit("refused %d" % number + (", cell %d" % cell if cell is not None else ""))
-    write(svg, picture.drawing(os.path.basename(day), mesh, places_of(xy, mesh[1]) if xy else None))
+    if counts and mesh[0] != 2:
+        sys.exit("%s: D is %d, and only triangles are coloured by their closure" % (day, mesh[0]))
+    write(svg, picture.drawing(os.path.basename(day), mesh, places_of(xy, mesh[1]) if xy else None,
+                               counts_of(counts, mesh[1]) if counts else None))
 
 
 def main():
@@ -97,13 +122,14 @@ def main():
     showing.add_argument("day")
     showing.add_argument("svg")
     showing.add_argument("--xy", help="the vertices' x and y")
+    showing.add_argument("--counts", help="the vertices' phases, to colour triangles by their closure")
     given = parser.parse_args()
     if given.command == "make":
         make(given.to)
     elif given.command == "from-msh":
         from_msh(given.msh, given.day, given.xy)
     else:
-        draw(given.day, given.xy, given.svg)
+        draw(given.day, given.xy, given.counts, given.svg)
 
 
 if __name__ == "__main__":

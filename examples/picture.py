@@ -1,4 +1,4 @@
-"""A mesh as an SVG picture, its edges coloured by how many cells they touch."""
+"""A mesh as an SVG picture, its edges coloured by how many cells they touch and, where there are counts, its triangles by their closure."""
 
 import math
 from xml.sax.saxutils import escape
@@ -11,6 +11,10 @@ KINDS = ("one", "two", "more")
 COLOURS = {"one": "#d4570a", "two": "#5a7891", "more": "#7b2d9c"}
 WORDS = {"one": ("border, ", "1 cell"), "two": ("inside, ", "2 cells"), "more": ("branching, ", "3 or more cells")}
 INK, CELL, PAPER = "#22303c", "#e6eef5", "#ffffff"
+FACES = {-1: "minus", 0: "cells", 1: "plus", 2: "masked"}
+FILLS = {-1: "#0a62d0", 0: CELL, 1: "#d0104c", 2: "#b4bac0"}
+SIGNS = {-1: "−1", 0: "0", 1: "+1"}
+HALO = ' font-weight="bold" stroke="%s" stroke-width="3" paint-order="stroke"' % PAPER
 FONT = "DejaVu Sans, Verdana, Helvetica, Arial, sans-serif"
 
 
@@ -29,6 +33,19 @@ def kind_of(count):
     return KINDS[min(count, 3) - 1]
 
 
+def number_of(count, what):
+    return "%d %s%s" % (count, what, "" if count == 1 else "s")
+
+
+def closures_of(cells, counts):
+    """The closure of each triangle, all 0 where there are no counts."""
+    return [0 if counts is None else rules.closure(*[counts[v] for v in sorted(cell)]) for cell in cells]
+
+
+def middle(corners):
+    return sum(x for x, _ in corners) / 3, sum(y for _, y in corners) / 3
+
+
 def spread(mesh, edges):
     """Places for a mesh without coordinates. One that cannot lie flat is given depth."""
     flat = mesh[0] < 3 and all(count < 3 for _, count in edges)
@@ -38,9 +55,10 @@ def spread(mesh, edges):
 class Picture:
     """The lines of the picture so far. The edges of one colour are one path, and so are the cells, to keep it short."""
 
-    def __init__(self, name, mesh, places):
+    def __init__(self, name, mesh, places, counts):
         self.D, self.points, self.cells = mesh
         self.edges = edges_of(self.D, self.cells)
+        self.closures, self.counted = closures_of(self.cells, counts), counts is not None
         self.fit(spread(mesh, self.edges) if places is None else places)
         title = "%s: D = %d, N₀ = %d, N₁ = %d" % (name, self.D, self.points, len(self.edges))
         if self.D > 1:
@@ -58,7 +76,7 @@ class Picture:
         left, top, wide, high = min(xs), max(ys), max(xs) - min(xs), max(ys) - min(ys)
         tall = 560 if self.D == 3 else 400
         scale = min((room / size for room, size in ((900, wide), (tall, high)) if size > 0), default=1)
-        self.width, self.height = max(700, round(wide * scale) + 60), round(high * scale) + 142
+        self.width, self.height = max(700, round(wide * scale) + 60), round(high * scale) + (168 if self.counted else 142)
         aside = (self.width - wide * scale) / 2
         self.at = [(aside + scale * (x - left), 70 + scale * (top - y)) for x, y in places]
         self.lengths = [math.dist(self.at[a], self.at[b]) for (a, b), _ in self.edges]
@@ -78,11 +96,12 @@ class Picture:
         self.text(x, y, number, 12, colour)
 
     def draw_cells(self):
-        lines = []
-        for cell in self.cells:
+        lines = {closure: [] for closure in FACES}
+        for cell, closure in zip(self.cells, self.closures):
             same_way = shapes.turn(*[self.at[v] for v in cell]) >= 0  # else equal cells would cancel
-            lines.append(self.line(cell if same_way else cell[::-1]) + "Z")
-        self.path("cells", lines, 'fill="%s"' % CELL)
+            lines[closure].append(self.line(cell if same_way else cell[::-1]) + "Z")
+        for closure in FACES if self.counted else (0,):
+            self.path(FACES[closure], lines[closure], 'fill="%s"' % FILLS[closure])
 
     def draw_edges(self):
         thin = min(2, max(0.6, sum(self.lengths) / max(1, len(self.lengths)) / 16))
@@ -100,7 +119,19 @@ class Picture:
             radius = abs(shapes.turn(*corners)) / around if around else 0
             size = min(28, radius / math.hypot(0.32 * digits, 0.37))
             if size > 7:
-                self.text(sum(x for x, _ in corners) / 3, sum(y for _, y in corners) / 3, c, size, INK)
+                self.text(*middle(corners), c, size, PAPER if self.closures[c] in (-1, 1) else INK)
+
+    def ring_residues(self):
+        """A ring around each small triangle that does not close, and its closure above; where these are many, the colours do."""
+        residues = [(cell, closure) for cell, closure in zip(self.cells, self.closures) if closure in (-1, 1)]
+        for cell, closure in residues if len(residues) <= 60 else []:
+            corners = [self.at[v] for v in cell]
+            x, y = middle(corners)
+            radius = max(12, 3 + max(math.dist((x, y), corner) for corner in corners))
+            if radius < 24:
+                self.out.append('<circle class="%s" cx="%.1f" cy="%.1f" r="%.1f" stroke="%s" stroke-width="2.4"/>'
+                                % (FACES[closure], x, y, radius, FILLS[closure]))
+                self.text(x, y - radius - 9, SIGNS[closure], 13, FILLS[closure], HALO)
 
     def number_edges(self):
         for i, (((a, b), count), length) in enumerate(zip(self.edges, self.lengths)):
@@ -122,31 +153,46 @@ class Picture:
         unused = sorted(set(range(self.points)) - {v for cell in self.cells for v in cell})
         self.path("alone", [self.line([v]) + "h0" for v in unused], 'stroke="%s" stroke-width="3"' % INK)
 
+    def legend_row(self, y, wide, marks):
+        """A row of marks, each a style, a shape of that width and the words behind it."""
+        x = (self.width + 24 - sum(wide + 33 + 6.2 * len(words) for _, _, words in marks)) / 2
+        for style, shape, words in marks:
+            self.out.append('<path %s d="M%.1f %d%s"/>' % (style, x, y, shape))
+            self.text(x + wide + 9, y, words, 12.5, INK, ' text-anchor="start"')
+            x += wide + 33 + 6.2 * len(words)
+
+    def legend_of_faces(self):
+        marks = []
+        for closure in FACES:
+            words = "closure " + SIGNS[closure] if closure in SIGNS else "masked"
+            style = 'fill="%s" stroke="%s" stroke-width="0.6"' % (FILLS[closure], COLOURS["two"])
+            marks.append((style, "m0 6h14l-7 -12Z", "%s: %s" % (words, number_of(self.closures.count(closure), "face"))))
+        self.legend_row(self.height - 50, 14, marks)
+
     def legend(self):
-        lines = []
+        marks = []
         for kind in KINDS:
-            count = sum(kind_of(c) == kind for _, c in self.edges)
             place, words = WORDS[kind]
-            lines.append("%s%s: %d edge%s" % (place if self.D == 2 else "", words, count, "" if count == 1 else "s"))
-        x, y = (self.width - sum(31 + 6.2 * len(words) for words in lines) - 48) / 2, self.height - 24
-        for kind, words in zip(KINDS, lines):
-            self.out.append('<path stroke="%s" stroke-width="4" d="M%.1f %dh22"/>' % (COLOURS[kind], x, y))
-            self.text(x + 31, y, words, 12.5, INK, ' text-anchor="start"')
-            x += 55 + 6.2 * len(words)
+            count = number_of(sum(kind_of(c) == kind for _, c in self.edges), "edge")
+            marks.append(('stroke="%s" stroke-width="4"' % COLOURS[kind], "h22", "%s%s: %s" % (place if self.D == 2 else "", words, count)))
+        self.legend_row(self.height - 24, 22, marks)
 
 
-def drawing(name, mesh, places):
-    """The picture's text; places are None where there are no coordinates."""
-    picture = Picture(name, mesh, places)
+def drawing(name, mesh, places, counts):
+    """The picture's text; places are None where there are no coordinates, and counts where there are no phases."""
+    picture = Picture(name, mesh, places, counts)
     if picture.D == 2:
         picture.draw_cells()
     picture.draw_edges()
     picture.draw_alone()
     if picture.D == 2:
         picture.number_cells()
+        picture.ring_residues()
     if picture.points <= 60:
         if picture.D < 3:
             picture.number_edges()
         picture.number_vertices()
+    if picture.counted:
+        picture.legend_of_faces()
     picture.legend()
     return "\n".join(picture.out + ["</g>", "</svg>", ""])

@@ -1,5 +1,5 @@
 /*
- * daybook: a day's mesh of triangles or tetrahedra, and who touches whom in it.
+ * daybook: a day's mesh of triangles or tetrahedra, who touches whom in it, and how phase closes around its faces.
  *
  * A mesh has a dimension D (1, 2 or 3), N_0 vertices (at most 8,192) and N_D cells
  * (at most 4,096): intervals, triangles or tetrahedra. An entity is a pair (d, i): d = 0 is a
@@ -25,7 +25,7 @@
  * filled by daybook_load again.
  *
  * THE RESULT of each call is 0 where it was accepted, else the number of the first refusal that
- * applies, in the order given at the call. A refusal alters no word or byte that you lent.
+ * applies, in the order given at the call. A refusal alters nothing that you lent.
  * What an out pointer points to is written only where the text says so, and else left alone.
  *
  * STACK. daybook_make, daybook_ask and daybook_ask_list need up to 512 KiB of stack (417 KiB were
@@ -37,7 +37,7 @@
  * an array of length 0 (which may then be any pointer that is not null, properly aligned).
  *
  * Each function is proved: for every file, book and number it returns without a fault, with
- * exactly the result and the words that the rules give.
+ * exactly the result and the words, bytes and floats that the rules give.
  */
 #ifndef DAYBOOK_H
 #define DAYBOOK_H
@@ -62,7 +62,7 @@ enum {
     DAYBOOK_BITS_AFTER = 9,        /* a bit after the last vertex is set */
     DAYBOOK_FRAME_BROKEN = 10,     /* the book's head words or the sizes of its relations break the frame rule */
     DAYBOOK_ROWS_BROKEN = 11,      /* the book's offsets, indices or free words break the row rule */
-    DAYBOOK_DIMENSION_OVER = 12,   /* d or e is over D */
+    DAYBOOK_DIMENSION_OVER = 12,   /* d or e is over D; for daybook_closures, D is 1 */
     DAYBOOK_NO_ROOM = 13,          /* the used length afterwards would pass the book's length */
     DAYBOOK_ALREADY_HELD = 14,     /* the relation is held already */
     DAYBOOK_NEED_MISSING = 15,     /* something that is needed is not held */
@@ -70,11 +70,17 @@ enum {
     DAYBOOK_NO_SUCH_ENTITY = 17,   /* i is N_d or more */
     DAYBOOK_BUFFER_TOO_SHORT = 18, /* the byte buffer is shorter than the file */
     DAYBOOK_NO_SUCH_INDEX = 19,    /* j is N_e or more */
-    DAYBOOK_PAIRS_OFF = 20         /* half a pair, more than DAYBOOK_MOST_PAIRS pairs, or answers that have not one place a pair */
+    DAYBOOK_PAIRS_OFF = 20,        /* half a pair, more than DAYBOOK_MOST_PAIRS pairs, or answers that have not one place a pair */
+    DAYBOOK_LIST_LENGTH = 21,      /* a lent list is not as long as the mesh asks */
+    DAYBOOK_COUNT_OUTSIDE = 22     /* a count is neither from -32,768 to 32,767 nor DAYBOOK_MASKED */
 };
 
 /* The most pairs that daybook_ask_list takes. */
 #define DAYBOOK_MOST_PAIRS 16
+
+/* The count of a masked point, and the closure of a face that has one. */
+#define DAYBOOK_MASKED 65536
+#define DAYBOOK_CLOSURE_MASKED 2
 
 /* A number of 32-bit words, as a uint64_t, that is enough for a mesh of dimension D (1, 2 or 3) with
  * N0 vertices and ND cells and for all its relations.
@@ -145,6 +151,22 @@ uint32_t daybook_euler(const uint32_t *book, size_t book_len, int64_t *number);
 
 /* Writes the number of relations held to *count where accepted. Refusal: 10. */
 uint32_t daybook_held_count(const uint32_t *book, size_t book_len, uint32_t *count);
+
+/* Phase closures, for triangles or tetrahedra. counts has each vertex's phase in 65,536ths of a turn, from
+ * -32,768 to 32,767, or DAYBOOK_MASKED.
+ *
+ * steps gets, for each edge, the step in turns: the higher vertex's phase less the lower's, brought by a whole
+ * turn if need be to at least -0.5 and below 0.5; 0.0 where an end is masked. masked gets a 1 for each such
+ * edge, else a 0. Every step is exact: a whole number of 65,536ths, without rounding, and never -0.0.
+ *
+ * closures gets, for each face with the vertices a < b < c, step(a,b) + step(b,c) - step(a,c), which is -1, 0
+ * or 1, or DAYBOOK_CLOSURE_MASKED where a vertex is masked. For triangles the faces are the cells.
+ *
+ * counts has to be N_0 long, closures N_2, steps and masked N_1. Where the call is accepted each place of the
+ * three lists is written, else none. Needs 1 -> 0 and 2 -> 0.
+ * Refusals: 10, 11, 12 where D is 1, 15, 21, 22. */
+uint32_t daybook_closures(const uint32_t *book, size_t book_len, const int32_t *counts, size_t counts_len,
+                          int32_t *closures, size_t closures_len, double *steps, size_t steps_len, uint8_t *masked, size_t masked_len);
 
 #ifdef __cplusplus
 }

@@ -1,7 +1,7 @@
 //! Safe calls of daybook: a day's mesh of triangles or tetrahedra in a book of lent words, and who touches whom in it.
 //!
 //! A book is a slice of `u32` that you lend to each call; `include/daybook.h` says what stands in it. Nothing is
-//! allocated and nothing is kept. A refusal alters no word and no byte. `make`, `ask` and `ask_list` need up to
+//! allocated and nothing is kept. A refusal alters nothing that was lent. `make`, `ask` and `ask_list` need up to
 //! 512 KiB of stack.
 //!
 //! ```no_run
@@ -26,6 +26,18 @@ mod c {
         pub fn daybook_write(book: *const u32, book_len: usize, bytes: *mut u8, bytes_len: usize, length: *mut usize) -> u32;
         pub fn daybook_euler(book: *const u32, book_len: usize, number: *mut i64) -> u32;
         pub fn daybook_held_count(book: *const u32, book_len: usize, count: *mut u32) -> u32;
+        pub fn daybook_closures(
+            book: *const u32,
+            book_len: usize,
+            counts: *const i32,
+            counts_len: usize,
+            closures: *mut i32,
+            closures_len: usize,
+            steps: *mut f64,
+            steps_len: usize,
+            masked: *mut u8,
+            masked_len: usize,
+        ) -> u32;
     }
 }
 
@@ -54,7 +66,7 @@ pub enum Refusal {
     FrameBroken,
     /// 11: the book's offsets, indices or free words break the row rule.
     RowsBroken,
-    /// 12: d or e is over D.
+    /// 12: d or e is over D; for `closures`, D is 1.
     DimensionOver,
     /// 13: the used length afterwards would pass the book's length.
     NoRoom,
@@ -72,10 +84,14 @@ pub enum Refusal {
     NoSuchIndex,
     /// 20: more than `MOST_PAIRS` pairs, or answers that have not one place a pair.
     PairsOff,
+    /// 21: a lent list is not as long as the mesh asks.
+    ListLength,
+    /// 22: a count is neither from −32,768 to 32,767 nor `MASKED`.
+    CountOutside,
 }
 
 impl Refusal {
-    /// The paper's number of this refusal, 1 to 20.
+    /// The paper's number of this refusal, 1 to 22.
     pub fn number(self) -> u32 {
         match self {
             Refusal::FileTooShort => 1,
@@ -98,6 +114,8 @@ impl Refusal {
             Refusal::BufferTooShort => 18,
             Refusal::NoSuchIndex => 19,
             Refusal::PairsOff => 20,
+            Refusal::ListLength => 21,
+            Refusal::CountOutside => 22,
         }
     }
 }
@@ -137,7 +155,9 @@ fn answer<T>(number: u32, cell: u32, value: T) -> Result<T, Refusal> {
         18 => Refusal::BufferTooShort,
         19 => Refusal::NoSuchIndex,
         20 => Refusal::PairsOff,
-        _ => unreachable!("the library gives 0 to 20"),
+        21 => Refusal::ListLength,
+        22 => Refusal::CountOutside,
+        _ => unreachable!("the library gives 0 to 22"),
     })
 }
 
@@ -241,6 +261,79 @@ pub fn held_count(book: &[u32]) -> Result<u32, Refusal> {
     // SAFETY: as in `load`.
     let number = unsafe { c::daybook_held_count(book.as_ptr(), book.len(), &mut count) };
     answer(number, 0, count)
+}
+
+/// The count of a masked point.
+pub const MASKED: i32 = 65_536;
+
+/// The closure of a face that has a masked point.
+pub const CLOSURE_MASKED: i32 = 2;
+
+/// A vertex's reading.
+#[derive(Clone, Copy, Debug, PartialEq)]
+pub enum Reading {
+    /// Its phase in turns.
+    Phase(f64),
+    Masked,
+}
+
+impl Reading {
+    /// The reading of a count: the count over 65,536, which is exact, or masked.
+    pub fn of(count: i32) -> Reading {
+        match count {
+            MASKED => Reading::Masked,
+            _ => Reading::Phase(f64::from(count) / 65_536.0),
+        }
+    }
+}
+
+/// An edge's step.
+#[derive(Clone, Copy, Debug, PartialEq)]
+pub enum Step {
+    /// The turns from its lower vertex to its higher, at least −0.5 and below 0.5.
+    Turns(f64),
+    /// An end is masked.
+    Masked,
+}
+
+impl Step {
+    /// The step that `closures` has written for an edge: its float and its byte.
+    pub fn of(turns: f64, masked: u8) -> Step {
+        match masked {
+            0 => Step::Turns(turns),
+            _ => Step::Masked,
+        }
+    }
+}
+
+/// Phase closures, for triangles or tetrahedra: from a count for each vertex, the closure of each face, −1, 0 or 1 or
+/// `CLOSURE_MASKED`, and the step of each edge, as a float and a byte, which `Step::of` takes. 1→0 and 2→0 have to be held, and
+/// the lists N_0, N_2, N_1 and N_1 long. Where the call is refused, no list is altered.
+///
+/// ```no_run
+/// # let (book, counts) = (vec![0; 500], vec![0; 4]);
+/// let (mut closures, mut steps, mut masked) = ([0; 2], [0.0; 5], [0; 5]);
+/// daybook::closures(&book, &counts, &mut closures, &mut steps, &mut masked)?;
+/// let first = daybook::Step::of(steps[0], masked[0]);
+/// # Ok::<(), daybook::Refusal>(())
+/// ```
+pub fn closures(book: &[u32], counts: &[i32], closures: &mut [i32], steps: &mut [f64], masked: &mut [u8]) -> Result<(), Refusal> {
+    // SAFETY: as in `load`.
+    let number = unsafe {
+        c::daybook_closures(
+            book.as_ptr(),
+            book.len(),
+            counts.as_ptr(),
+            counts.len(),
+            closures.as_mut_ptr(),
+            closures.len(),
+            steps.as_mut_ptr(),
+            steps.len(),
+            masked.as_mut_ptr(),
+            masked.len(),
+        )
+    };
+    answer(number, 0, ())
 }
 
 /// At most so many entities of dimension 1, 2 and 3, as if no two cells shared one.

@@ -1,5 +1,5 @@
 //! The paper's examples and each refusal, through the safe calls.
-use daybook::{Found, Refusal, MOST_PAIRS};
+use daybook::{Found, Reading, Refusal, Step, CLOSURE_MASKED, MASKED, MOST_PAIRS};
 
 /// The two triangles {0, 1, 3} and {1, 2, 3}.
 const T: [u8; 14] = [0x80, 0x04, 0x00, 0x10, 0x00, 0x00, 0x00, 0x40, 0x06, 0x00, 0x10, 0x01, 0x00, 0x0C];
@@ -89,6 +89,48 @@ fn a_search_reads_no_further_than_it_needs() {
     assert_eq!(daybook::find(&[], 0, 1, 1, 3), Err(Refusal::FrameBroken));
 }
 
+/// What `closures` writes for T, whose edges are 0 1, 0 3, 1 3, 1 2 and 2 3 and whose faces are 0 1 3 and 1 2 3; floats by their bits.
+fn closed(counts: &[i32]) -> Result<([i32; 2], [u64; 5], [u8; 5]), Refusal> {
+    let mut book = loaded(40);
+    daybook::ask(&mut book, 1, 0).unwrap();
+    let (mut closures, mut steps, mut masked) = ([9; 2], [-0.0; 5], [9; 5]);
+    let answer = daybook::closures(&book, counts, &mut closures, &mut steps, &mut masked);
+    if answer.is_err() {
+        assert_eq!((closures, steps.map(f64::to_bits), masked), ([9; 2], [(-0.0_f64).to_bits(); 5], [9; 5]));
+    }
+    answer.map(|()| (closures, steps.map(f64::to_bits), masked))
+}
+
+/// 65,536ths of a turn as the bits of a float.
+fn bits(counts: [i32; 5]) -> [u64; 5] {
+    counts.map(|k| (f64::from(k) / 65_536.0).to_bits())
+}
+
+#[test]
+fn closures_are_exact() {
+    assert_eq!(closed(&[0, 20000, -20000, 10000]), Ok(([0, 1], bits([20000, 10000, -10000, 25536, 30000]), [0; 5])));
+    assert_eq!(closed(&[0, 20000, MASKED, 10000]), Ok(([0, CLOSURE_MASKED], bits([20000, 10000, -10000, 0, 0]), [0, 0, 0, 1, 1])));
+    assert_eq!(closed(&[0, 21846, 0, -21846]), Ok(([1, -1], bits([21846, -21846, 21844, -21846, -21846]), [0; 5])));
+    assert_eq!(closed(&[-32768, 0, -32768, -32768]), Ok(([-1, 0], bits([-32768, 0, -32768, -32768, 0]), [0; 5])));
+}
+
+#[test]
+fn closures_are_refused() {
+    assert_eq!(closed(&[0, 0, 0]), Err(Refusal::ListLength));
+    assert_eq!(closed(&[0, 0, 65535]), Err(Refusal::ListLength));
+    for outside in [65535, 65537, 32768, -32769, i32::MIN, i32::MAX] {
+        assert_eq!(closed(&[0, outside, 0, 0]), Err(Refusal::CountOutside));
+    }
+    assert_eq!(daybook::closures(&loaded(40), &[], &mut [], &mut [], &mut []), Err(Refusal::NeedMissing));
+    assert_eq!(daybook::closures(&[], &[], &mut [], &mut [], &mut []), Err(Refusal::FrameBroken));
+}
+
+#[test]
+fn readings_and_steps() {
+    assert_eq!([-32768, 1, MASKED].map(Reading::of), [Reading::Phase(-0.5), Reading::Phase(1.0 / 65536.0), Reading::Masked]);
+    assert_eq!([Step::of(0.25, 0), Step::of(0.0, 1)], [Step::Turns(0.25), Step::Masked]);
+}
+
 #[test]
 fn the_file_comes_back() {
     let mut bytes = [0xAA; 16];
@@ -144,9 +186,9 @@ fn numbers_are_the_papers() {
         Refusal::FileTooShort, Refusal::NoDimension, Refusal::ManyVertices, Refusal::ManyCells, Refusal::SpareBits, Refusal::FileLength,
         Refusal::VertexOut(0), Refusal::VertexTwice(0), Refusal::BitsAfter, Refusal::FrameBroken, Refusal::RowsBroken, Refusal::DimensionOver,
         Refusal::NoRoom, Refusal::AlreadyHeld, Refusal::NeedMissing, Refusal::NotHeld, Refusal::NoSuchEntity, Refusal::BufferTooShort,
-        Refusal::NoSuchIndex, Refusal::PairsOff,
+        Refusal::NoSuchIndex, Refusal::PairsOff, Refusal::ListLength, Refusal::CountOutside,
     ];
-    assert!(all.iter().map(|r| r.number()).eq(1..=20));
+    assert!(all.iter().map(|r| r.number()).eq(1..=22));
 }
 
 #[test]

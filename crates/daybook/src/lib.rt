@@ -26,15 +26,18 @@
 // | 10  | the frame rule is broken                                    | all but load, ask_list  |
 // | 11  | the row rule is broken; for row and find, the row's own     | all but load, ask_list, |
 // |     | offsets alone                                               | held_count              |
-// | 12  | d or e is over D                                            | make, ask, row, find    |
+// | 12  | d or e is over D; for close, D is 1                         | make, ask, row, find,   |
+// |     |                                                             | close                   |
 // | 13  | the used length afterwards would pass the book's length     | load, make, ask         |
 // | 14  | the relation is held already                                | make                    |
-// | 15  | something that is needed is not held                        | make, euler             |
+// | 15  | something that is needed is not held                        | make, euler, close      |
 // | 16  | the relation is not held                                    | row, find               |
 // | 17  | i is N_d or more                                            | row, find               |
 // | 18  | the byte buffer is shorter than the file                    | write                   |
 // | 19  | j is N_e or more                                            | find                    |
 // | 20  | half a pair, over 16 pairs, or not one place a pair         | ask_list                |
+// | 21  | a lent list is not one place a vertex, edge or face         | close                   |
+// | 22  | a count is not from −32,768 to 32,767, nor 65,536           | close                   |
 //
 // ask_list gives no other number as a call: what each of its asks is refused for stands among its answers.
 mod answers;
@@ -47,6 +50,9 @@ pub use answers::Listed;
 pub use answers::Made;
 pub use answers::asked_number;
 pub use asks::ask;
+pub use closing::Closed;
+pub use closing::close;
+pub use closing::closed_number;
 pub use lists::ask_list;
 pub use loading::Loaded;
 pub use loading::load;

@@ -6,6 +6,7 @@ ghost use lib.ListN.{length};
 ghost use lib.Dec.{eqb};
 ghost use Rattle.rules.specs.Book.{key, rowStart, rowOf};
 ghost use Rattle.rules.specs.Calls.{faultCell, loadNumber, loadWords, makeNumber, makeWords, askNumber, askWords, listNumber, listAnswers, listWords, rowNumber, findNumber, findFound, findRead, writeNumber, writeLength, writeBytes, eulerNumber, eulerOf, heldNumber, heldCount};
+ghost use Rattle.rules.specs.Closures.{closeNumber, closuresAfter, stepsAfter, bytesAfter};
 use book::Place;
 use daybook::Counted;
 use daybook::EulerNumber;
@@ -197,4 +198,21 @@ pub extern "C" fn daybook_held_count(book: &[u32], count: &mut u32) -> u32
         }
         Counted::FrameBroken => 10,
     }
+}
+
+// Phase closures: where accepted, the closure of every face, the step of every edge in turns, and 1 for each edge that is masked are written.
+#[no_mangle]
+pub extern "C" fn daybook_closures(
+    book: &[u32],
+    counts: &[i32],
+    closures: &mut [i32],
+    steps: &mut [f64],
+    masked: &mut [u8],
+) -> u32
+    ensures number { λ r. ⌜ r ≡ closeNumber (now (book .entry)) (now (counts .entry)) (length (now (closures .entry))) (length (now (steps .entry))) (length (now (masked .entry))) ⌝ }
+    ensures closures { λ _. ⌜ now (closures .exit) ≡ closuresAfter (now (book .entry)) (now (counts .entry)) (now (closures .entry)) (now (steps .entry)) (now (masked .entry)) ⌝ }
+    ensures steps { λ _. ⌜ now (steps .exit) ≡ stepsAfter (now (book .entry)) (now (counts .entry)) (now (closures .entry)) (now (steps .entry)) (now (masked .entry)) ⌝ }
+    ensures bytes { λ _. ⌜ now (masked .exit) ≡ bytesAfter (now (book .entry)) (now (counts .entry)) (now (closures .entry)) (now (steps .entry)) (now (masked .entry)) ⌝ }
+{
+    daybook::closed_number(daybook::close(book, counts, closures, steps, masked))
 }

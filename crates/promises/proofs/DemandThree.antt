@@ -29,13 +29,13 @@ module _ (m : Mesh) (ws : List ℕ) (k : Kept m ws) (d e : ℕ) (l : e ≤ m .di
   is-named : named (k .mask) (key d e) ≡ true
   is-named = sym (kept-held m ws k (key d e)) ∙ h
 
-  first-count : count ws d ≡ number m d
+  pub first-count : count ws d ≡ number m d
   first-count = ap (λ (w : List ℕ). count w d) (k .words) ∙ count-first m (k .formed) (k .mask) (k .closed) d e four is-named (length ws)
 
   pub second-count : count ws e ≡ number m e
   second-count = ap (λ (w : List ℕ). count w e) (k .words) ∙ count-second m (k .formed) (k .mask) (k .closed) d e four is-named (length ws)
 
-  row-true : (i : ℕ) → i < number m d → rowOf ws (key d e) i ≡ trueRow m d e i
+  pub row-true : (i : ℕ) → i < number m d → rowOf ws (key d e) i ≡ trueRow m d e i
   row-true i x = ap (λ (w : List ℕ). rowOf w (key d e) i) (k .words) ∙ book-row m (k .formed) (k .mask) (k .closed) d e four is-named (length ws) i x
 
   index-valid : (i j : ℕ) → i < count ws d → has j (rowOf ws (key d e) i) ≡ true → (j < count ws e) × (count ws e ≡ number m e)
@@ -115,4 +115,4 @@ nothing-else m ws r =
     let k = reached-kept m ws r in
     let f = kept-frame m ws k in
     let g = kept-rows m ws k in
-    (f, g, λ d e i j bs. faultless ws f g d e i j bs)
+    (f, g, λ d e i j bs counts closures steps bytes. faultless ws f g d e i j bs counts closures steps bytes)

@@ -5,3 +5,6 @@ pub mod RoundTrip
 pub mod Lying
 pub mod Run
 pub mod Listed
+pub mod FaceEdges
+pub mod StepsAgree
+pub mod FacesCancel

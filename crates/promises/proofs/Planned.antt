@@ -6,11 +6,14 @@ use Prim.Native.Nat.{ℕ, zero, suc, _+_, _/_, _%_, _^_, _≤_, _<_}
 use native.Mathlib.Omega.{arith}
 use lib.ListN.{length, getD, take}
 use lib.Dec.{eqb, ltb, leb}
+use lib.IntN.{ℤ}
 use borrow.Author.Tests.{ltb-false, leb-false, le-leb, eqb-true}
 use Rattle.rules.specs.Lists.{allOf, filled}
 use Rattle.rules.specs.File.{lengthOf}
 use Rattle.rules.specs.Book.{dim, count, key, named, held, offset, total, needs, frameRight, rowsRight}
 use Rattle.rules.specs.Calls.{rule, firstBroken, added, through, withKey, asked, makeRules, makeNumber, askRules, askNumber, askWords, rowRules, rowNumber, findNumber, writeLength, writeRules, writeNumber, eulerRules, eulerNumber, heldRules, heldNumber}
+use Rattle.rules.specs.Phases.{counted}
+use Rattle.rules.specs.Closures.{lengthsRight, closeRules, closeNumber}
 use Rattle.rules.specs.Truth.{Mesh, number, trueBook}
 use Rattle.rules.specs.Sequence.{Reached}
 use Rattle.rules.proofs.Tests.{all-weaker}
@@ -27,10 +30,10 @@ use Rattle.rules.proofs.Closed.{Closed}
 use Rattle.rules.proofs.TrueBook.{book-mask, book-dim, book-count, true-take, count-first}
 use Rattle.rules.proofs.TrueMake.{true-added}
 use Rattle.rules.proofs.TrueAsk.{true-asked}
-use Rattle.promises.specs.Plan.{wordsFor, maskThrough, maskWith, makePlan, askPlan, maskAfter, rowPlan, findPlan, writePlan, eulerPlan}
+use Rattle.promises.specs.Plan.{wordsFor, maskThrough, maskWith, makePlan, askPlan, maskAfter, rowPlan, findPlan, writePlan, eulerPlan, closePlan}
 use Rattle.promises.specs.Demand.{Holds, Planned}
 use Rattle.promises.proofs.Kept.{Kept, kept-held, kept-dim, kept-mask, kept-frame, kept-rows, reached-kept}
-use Rattle.promises.proofs.DemandThree.{second-count}
+use Rattle.promises.proofs.DemandThree.{first-count, second-count}
 
 -- ---- Ask's mask: word 1 goes along the needs as the words do
 dim-added : (ws : List ℕ) (d e : ℕ) → dim (added ws d e) ≡ dim ws
@@ -222,11 +225,33 @@ module _ (m : Mesh) (ws : List ℕ) (k : Kept m ws) where
   unfolding heldNumber heldRules firstBroken
   held-planned = rw frame
 
+  -- phase closures
+  close-planned : (counts : List ℤ) (closures steps bytes : ℕ) → closeNumber ws counts closures steps bytes ≡ closePlan m (k .mask) counts closures steps bytes
+  unfolding closeNumber closeRules closePlan lengthsRight firstBroken
+  close-planned counts closures steps bytes =
+      rw (frame, rows, kept-dim m ws k, kept-held m ws k (key 1 0), kept-held m ws k (key 2 0)) (go (named (k .mask) (key 1 0)) refl (named (k .mask) (key 2 0)) refl)
+    where
+      sized : (n₀ n₁ n₂ : ℕ) → ℕ
+      sized n₀ n₁ n₂ = cond (not (eqb (length counts) n₀ && (eqb closures n₂ && (eqb steps n₁ && eqb bytes n₁)))) 21 (cond (not (allOf counted counts)) 22 0)
+
+      same : named (k .mask) (key 1 0) ≡ true → named (k .mask) (key 2 0) ≡ true → sized (count ws 0) (count ws 1) (count ws 2) ≡ sized (number m 0) (number m 1) (number m 2)
+      same p q =
+          let h = kept-held m ws k (key 1 0) ∙ p in
+          let g = kept-held m ws k (key 2 0) ∙ q in
+          rw (second-count m ws k 1 0 (omega arith) h, first-count m ws k 1 0 (omega arith) h, first-count m ws k 2 0 (omega arith) g)
+
+      go : (x : Bool) → named (k .mask) (key 1 0) ≡ x → (y : Bool) → named (k .mask) (key 2 0) ≡ y
+          → _≡_ {A = ℕ} (cond (eqb (m .dims) 1) 12 (cond (not (x && y)) 15 (sized (count ws 0) (count ws 1) (count ws 2))))
+          (cond (eqb (m .dims) 1) 12 (cond (not (x && y)) 15 (sized (number m 0) (number m 1) (number m 2))))
+      go true p true q = rw (same p q)
+      go true p false q = refl
+      go false p y q = refl
+
   pub same-mask : (mask : ℕ) → Holds ws mask → mask ≡ k .mask
   same-mask mask h = masks-equal 16 mask (k .mask) (h .small) (k .closed .small) (λ j l. h .names j l ∙ kept-held m ws k j)
 
 pub planned : Planned
-planned m ws r mask h d e i j bs =
+planned m ws r mask h d e i j bs counts closures steps bytes =
     let k = reached-kept m ws r in
     rw (same-mask m ws k mask h)
-    (make-planned m ws k d e, ask-planned m ws k d e, row-planned m ws k d e i, find-planned m ws k d e i j, write-planned m ws k bs, euler-planned m ws k, held-planned m ws k)
+    (make-planned m ws k d e, ask-planned m ws k d e, row-planned m ws k d e i, find-planned m ws k d e i j, write-planned m ws k bs, euler-planned m ws k, held-planned m ws k, close-planned m ws k counts closures steps bytes)

@@ -4,10 +4,12 @@ use mathlib.Core.List.{List, [], _∷_}
 use Prim.Native.Nat.{ℕ, zero, suc, _+_, _/_, _%_, _^_}
 use lib.ListN.{length}
 use lib.Dec.{eqb, ltb, leb}
+use lib.IntN.{ℤ}
 use Rattle.rules.specs.Lists.{allOf}
 use Rattle.rules.specs.File.{lengthOf}
 use Rattle.rules.specs.Book.{key, named, needs}
 use Rattle.rules.specs.Calls.{rule, firstBroken}
+use Rattle.rules.specs.Phases.{counted}
 use Rattle.rules.specs.Truth.{Mesh, number, trueBook}
 
 -- how many words the true relations that the mask names take, with the head
@@ -69,3 +71,14 @@ writePlan n m = firstBroken (rule (ltb n (lengthOf (m .dims) (length (m .cells))
 unfoldable pub eulerPlan : Mesh → ℕ → ℕ
 eulerPlan m mask =
     firstBroken (rule ((ltb 1 (m .dims) && not (named mask (key 1 0))) || (ltb 2 (m .dims) && not (named mask (key 2 0)))) 15 ∷ []) 0
+
+-- phase closures, for lists of these lengths: 12 if D is 1, else 15 if 1→0 or 2→0 is not held, else 21 if a list is not one place a vertex, face or edge, else 22 if a count may not be lent, else 0
+unfoldable pub closePlan : Mesh → ℕ → List ℤ → ℕ → ℕ → ℕ → ℕ
+closePlan m mask counts closures steps bytes =
+    firstBroken
+    (rule (eqb (m .dims) 1) 12
+    ∷ rule (not (named mask (key 1 0) && named mask (key 2 0))) 15
+    ∷ rule (not (eqb (length counts) (number m 0) && (eqb closures (number m 2) && (eqb steps (number m 1) && eqb bytes (number m 1))))) 21
+    ∷ rule (not (allOf counted counts)) 22
+    ∷ [])
+    0

@@ -1,4 +1,4 @@
-// The calls that leave the book as it is: Row, Find, Write, the Euler number and the held count. `daybook` has them beside Load, Make, Ask and the list of asks.
+// Calls that leave the book as it is: Row, Find, Write, the Euler number and the held count. `daybook` has them beside Load, Make, Ask, the list of asks and phase closures.
 mod answers;
 mod finds;
 mod numbers;

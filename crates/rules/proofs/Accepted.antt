@@ -6,11 +6,14 @@ use Prim.Native.Nat.{ℕ, _*_, _/_, _%_, _≤_, _<_}
 use native.Mathlib.Omega.{arith}
 use lib.ListN.{length, length-append, length-replicate}
 use lib.Dec.{eqb, ltb, leb}
+use lib.IntN.{ℤ}
 use borrow.Author.Tests.{not-true, not-false, ltb-true, ltb-false, leb-false, eqb-true, eqb-false, eq-eqb, ne-eqb, le-ltb}
 use Rattle.rules.specs.Lists.{anyOf, allOf, filled}
 use Rattle.rules.specs.File.{fileDim, fileVertices, fileCells, fileSpare, lengthOf, cellsInFile, outOf, twice, padSet}
-use Rattle.rules.specs.Book.{dim, count, key, held, needs, rowOf}
+use Rattle.rules.specs.Book.{dim, count, key, held, needs, rowOf, frameRight, rowsRight}
 use Rattle.rules.specs.Calls.{Rule, firstBroken, loaded, fileRules, loadRules, loadNumber, loadWords, added, makeRules, makeNumber, makeWords, asked, askRules, askNumber, askWords, wordsOf, pairsOff, listRules, listNumber, listWords, rowRules, rowNumber, rowPart, foundIn, readIn, findRules, findNumber, findFound, findRead}
+use Rattle.rules.specs.Phases.{counted}
+use Rattle.rules.specs.Closures.{lengthsRight, closeRules, closeNumber}
 use Rattle.rules.proofs.Tests.{left, right, neither}
 
 -- where the answer is 0 and no rule's answer is, no rule was broken
@@ -263,3 +266,39 @@ find-accepted ws d e i j h = (rw h, rw h)
 pub find-refused : (ws : List ℕ) (d e i j : ℕ) → 0 < findNumber ws d e i j → (findFound ws d e i j ≡ false) × (findRead ws d e i j ≡ 0)
 unfolding findFound findRead
 find-refused ws d e i j l = let n = ne-eqb (findNumber ws d e i j) 0 (omega arith) in (rw n, rw n)
+
+-- ---- phase closures
+pub record Closes (ws : List ℕ) (counts : List ℤ) (closures steps bytes : ℕ) : Type 0 where
+  pub frame : frameRight ws ≡ true
+  pub rows : rowsRight ws ≡ true
+  pub over : dim ws ≡ 1 → ⊥
+  pub edges : held ws (key 1 0) ≡ true
+  pub faces : held ws (key 2 0) ≡ true
+  pub a-vertex : length counts ≡ count ws 0
+  pub a-face : closures ≡ count ws 2
+  pub an-edge : steps ≡ count ws 1
+  pub a-byte : bytes ≡ count ws 1
+  pub lent : allOf counted counts ≡ true
+
+pub closes : (ws : List ℕ) (counts : List ℤ) (closures steps bytes : ℕ) → closeNumber ws counts closures steps bytes ≡ 0 → Closes ws counts closures steps bytes
+unfolding closeNumber closeRules allOf lengthsRight
+closes ws counts closures steps bytes z =
+    let u = unbroken (closeRules ws counts closures steps bytes) refl z in
+    let f : frameRight ws ≡ true = search (left, right, not-true, not-false) depth 12 in
+    let r : rowsRight ws ≡ true = search (left, right, not-true, not-false) depth 12 in
+    let d : eqb (dim ws) 1 ≡ false = search (left, right, not-true, not-false) depth 12 in
+    let h : (held ws (key 1 0) && held ws (key 2 0)) ≡ true = search (left, right, not-true, not-false) depth 12 in
+    let l : (eqb (length counts) (count ws 0) && (eqb closures (count ws 2) && (eqb steps (count ws 1) && eqb bytes (count ws 1)))) ≡ true = search (left, right, not-true, not-false) depth 14 in
+    let c : allOf counted counts ≡ true = search (left, right, not-true, not-false) depth 16 in
+    record {
+      frame = f;
+      rows = r;
+      over = eqb-false (dim ws) 1 d;
+      edges = left (held ws (key 1 0)) (held ws (key 2 0)) h;
+      faces = right (held ws (key 1 0)) (held ws (key 2 0)) h;
+      a-vertex = search (left, right, eqb-true) depth 12;
+      a-face = search (left, right, eqb-true) depth 12;
+      an-edge = search (left, right, eqb-true) depth 12;
+      a-byte = search (left, right, eqb-true) depth 12;
+      lent = c;
+    }

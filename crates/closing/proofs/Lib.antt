@@ -1,0 +1,4 @@
+pub mod Parts
+pub mod Lent
+pub mod Answered
+pub mod Alike

@@ -1,0 +1,4 @@
+pub mod Turns
+pub mod Literals
+pub mod Exact
+pub mod Rowing

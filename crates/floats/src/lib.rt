@@ -1,0 +1,1 @@
+// Laws of 64-bit floats: no code.
