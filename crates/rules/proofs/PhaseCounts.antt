@@ -8,7 +8,7 @@ use lib.Dec.{T, ltb, leb, ltb→lt, leb→le}
 use lib.IntN.{ℤ, pos, negsuc, natAbs, subℕ, _+ℤ_, _-ℤ_, _*ℤ_}
 use lib.Signed.{quotZ}
 use lib.Ieee.Fits.{and-l, and-r}
-use borrow.Author.Tests.{ltb-true, ltb-false, ne-eqb}
+use borrow.Author.Tests.{ltb-true, ltb-false, lt-ltb, le-leb, ne-eqb}
 use Rattle.rules.proofs.Compared.{order, lt-or-le}
 use Rattle.rules.proofs.Tests.{cases}
 use Rattle.rules.specs.Phases.{masked, phased, counted, wrapped, stepCount, closureCount, closureOf}
@@ -51,6 +51,21 @@ step-is k j p q =
     subst (Wrapped x y)
     (ap wrapped (sym (ap₂ (λ (m n : ℤ). m -ℤ n) (q .is) (p .is) ∙ less-less y 32768 x 32768 ∙ less-same (y + 32768) (32768 + x) y x (omega arith))))
     (wrapped-is x y (p .below) (q .below))
+
+-- a step is at least −1/2 and below 1/2: one turn is enough
+near : (a b : ℕ) → b ≤ a + 32768 → a < b + 32768 → T (phased (subℕ a b))
+unfolding phased
+near a b l h = elim (lt-or-le a b) [
+  | inl x ↦ subst (λ (s : ℤ). T (phased s)) (sym (less-neg a b x)) (rw (le-leb (b - suc a) 32767 (omega arith)) tt)
+  | inr x ↦ subst (λ (s : ℤ). T (phased s)) (sym (less-pos a b x)) (rw (lt-ltb (a - b) 32768 (omega arith)) tt)
+]
+
+pub step-phased : (k j : ℤ) → T (phased k) → T (phased j) → T (phased (stepCount k j))
+step-phased k j K J =
+    let p = shifted k K in
+    let q = shifted j J in
+    let w = step-is k j p q in
+    subst (λ (s : ℤ). T (phased s)) (sym (w .is)) (near (q .number + 65536 * w .more) (p .number + 65536 * w .less) (w .low) (w .high))
 
 -- ==== the closure of three: a whole number of turns, and less than one and a half
 pub closure-three : (a b c : ℤ) → T (phased a) → T (phased b) → T (phased c) → (closureCount a b c ≡ negsuc 65535) ⊎ ((closureCount a b c ≡ pos 0) ⊎ (closureCount a b c ≡ pos 65536))
