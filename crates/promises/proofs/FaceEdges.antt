@@ -7,11 +7,11 @@ use Prim.Native.Nat.{ℕ, _+_, _≤_, _<_}
 use native.Mathlib.Omega.{arith}
 use lib.ListN.{length}
 use lib.Dec.{ltb, eqb}
-use borrow.Author.Tests.{ltb-true, eqb-true, eqb-false}
+use borrow.Author.Tests.{ltb-true, lt-ltb, eqb-true, eqb-false}
 use Rattle.rules.specs.Lists.{ascends, inside, has, choose}
 use Rattle.rules.specs.Made.{built}
 use Rattle.rules.specs.Truth.{Mesh, entities, number, entity, trueRow}
-use Rattle.rules.proofs.Tests.{cases, left, inside-at}
+use Rattle.rules.proofs.Tests.{cases, left, right, inside-at}
 use Rattle.rules.proofs.Searched.{place-in}
 use Rattle.rules.proofs.Choose.{chosen, choice}
 use Rattle.rules.proofs.Built.{built-of, built-is}
@@ -49,6 +49,23 @@ module _ (m : Mesh) (f : Formed m) where
   -- an entity is in another's row exactly if it lies inside it
   pub listed-inside : (d e i j : ℕ) → e < d → j < number m e → has j (trueRow m d e i) ≡ inside (entity m e j) (entity m d i)
   listed-inside d e i j h l = has-incident m d e i j l ∙ incident-down m d e i j h
+
+-- vertices that ascend, by two of them at a time
+pub two-up : (p q : ℕ) → p < q → ascends (p ∷ q ∷ []) ≡ true
+unfolding ascends
+two-up p q x = rw (lt-ltb p q x)
+
+pub three-up : (p q r : ℕ) → p < q → q < r → ascends (p ∷ q ∷ r ∷ []) ≡ true
+unfolding ascends
+three-up p q r x y = rw (lt-ltb p q x, lt-ltb q r y)
+
+pub three-apart : (a b c : ℕ) → ascends (a ∷ b ∷ c ∷ []) ≡ true → (a < b) × (b < c)
+unfolding ascends
+three-apart a b c u = search (left, right, ltb-true) depth 6
+
+pub four-apart : (a b c d : ℕ) → ascends (a ∷ b ∷ c ∷ d ∷ []) ≡ true → (a < b) × (b < c) × (c < d)
+unfolding ascends
+four-apart a b c d u = search (left, right, ltb-true) depth 8
 
 -- two members of an ascending list of three, ascending, are its first and second, second and third, or first and third
 one-of : (p a b c : ℕ) → In p (a ∷ b ∷ c ∷ []) → (p ≡ a) ⊎ ((p ≡ b) ⊎ (p ≡ c))

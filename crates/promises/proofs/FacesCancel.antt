@@ -8,30 +8,20 @@ use lib.ListN.{length, getD}
 use lib.Dec.{T}
 use lib.IntN.{ℤ, pos}
 use lib.Ieee.{Float}
-use borrow.Author.Tests.{ltb-true, lt-ltb}
 use Rattle.rules.specs.Lists.{ascends, has}
 use Rattle.rules.specs.Book.{key, held, count, rowOf}
 use Rattle.rules.specs.Truth.{Mesh, number, entity}
 use Rattle.rules.specs.Phases.{masked, phased, counted}
 use Rattle.rules.specs.Closures.{countAt, faceClosure, closeNumber, closuresAfter}
-use Rattle.rules.proofs.Tests.{inside-of, all-place, left, right}
+use Rattle.rules.proofs.Tests.{inside-of, all-place}
 use Rattle.rules.proofs.Accepted.{closes}
 use Rattle.rules.proofs.PhaseCounts.{unmasked, closures-cancel}
 use Rattle.rules.proofs.TrueRows.{good, vertex-row, number-low}
 use Rattle.promises.specs.Faces.{FaceOf, Cancelled, FacesCancel}
 use Rattle.promises.proofs.Kept.{Kept, kept-held, reached-kept}
 use Rattle.promises.proofs.DemandThree.{first-count, second-count, row-true}
-use Rattle.promises.proofs.FaceEdges.{sub-entity, listed-inside}
+use Rattle.promises.proofs.FaceEdges.{sub-entity, listed-inside, three-up, four-apart}
 use Rattle.promises.proofs.StepsAgree.{faces, face-row, closure-at}
-
--- vertices that ascend
-four-up : (a b c d : ℕ) → ascends (a ∷ b ∷ c ∷ d ∷ []) ≡ true → (a < b) × (b < c) × (c < d)
-unfolding ascends
-four-up a b c d u = search (left, right, ltb-true) depth 8
-
-three-up : (p q r : ℕ) → p < q → q < r → ascends (p ∷ q ∷ r ∷ []) ≡ true
-unfolding ascends
-three-up p q r x y = rw (lt-ltb p q x, lt-ltb q r y)
 
 module _ (m : Mesh) (ws : List ℕ) (k : Kept m ws) (counts closures : List ℤ) (steps : List Float) (bytes : List ℕ)
     (z : closeNumber ws counts (length closures) (length steps) (length bytes) ≡ 0) (three : m .dims ≡ 3) where
@@ -85,7 +75,7 @@ module _ (m : Mesh) (ws : List ℕ) (k : Kept m ws) (counts closures : List ℤ)
       → Cancelled ws (closuresAfter ws counts closures steps bytes) i a b c d
   unfolding faceClosure countAt
   four-faces i a b c d l e A B C D =
-      let (x, y, w) = four-up a b c d (ap ascends (sym e) ∙ good m (k .formed) 3 i (omega arith) (omega (arith, three)) l .up) in
+      let (x, y, w) = four-apart a b c d (ap ascends (sym e) ∙ good m (k .formed) 3 i (omega arith) (omega (arith, three)) l .up) in
       let first : In a (entity m 3 i) = rw e (here refl) in
       let second : In b (entity m 3 i) = rw e (there (here refl)) in
       let third : In c (entity m 3 i) = rw e (there (there (here refl))) in

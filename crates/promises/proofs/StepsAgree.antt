@@ -8,13 +8,13 @@ use native.Mathlib.Omega.{arith}
 use lib.ListN.{length, getD}
 use lib.IntN.{ℤ, pos}
 use lib.Ieee.{Float}
-use borrow.Author.Tests.{ltb-true, lt-ltb, eq-eqb}
+use borrow.Author.Tests.{eq-eqb}
 use Rattle.rules.specs.Lists.{upTo, ascends, inside, has, choose}
 use Rattle.rules.specs.Book.{key, held, count, rowOf, rowsOf}
 use Rattle.rules.specs.Truth.{Mesh, number, entity, trueRow}
 use Rattle.rules.specs.Phases.{turns}
 use Rattle.rules.specs.Closures.{edgeStep, edgeByte, faceClosure, stepsOf, bytesOf, closuresOf, closeNumber, acceptedFor, closuresAfter, stepsAfter, bytesAfter}
-use Rattle.rules.proofs.Tests.{inside-of, left, right}
+use Rattle.rules.proofs.Tests.{inside-of}
 use Rattle.rules.proofs.Numbered.{getD-map, length-rows, getD-rows, three-members}
 use Rattle.rules.proofs.Accepted.{Closes, closes}
 use Rattle.rules.proofs.TrueFacts.{rows-valid}
@@ -22,22 +22,13 @@ use Rattle.rules.proofs.TrueRows.{good, vertex-row}
 use Rattle.promises.specs.Faces.{EdgeOf, EdgesOf, StepsAgree, OneStep}
 use Rattle.promises.proofs.Kept.{Kept, kept-dim, reached-kept}
 use Rattle.promises.proofs.DemandThree.{first-count, row-true}
-use Rattle.promises.proofs.FaceEdges.{sub-entity, listed-inside, pair-of-three}
+use Rattle.promises.proofs.FaceEdges.{sub-entity, listed-inside, two-up, three-apart, pair-of-three}
 
 -- what is written for row j of a relation to the vertices
 written-at {ℓ} : {A : Type ℓ} (g : List ℕ → A) (z : A) (ws : List ℕ) (k j : ℕ) → j < count ws (k / 4) → getD (map g (rowsOf ws k)) j z ≡ g (rowOf ws k j)
 unfolding rowsOf
 written-at g z ws k j l =
     getD-map g (map (rowOf ws k) (upTo (count ws (k / 4)))) j [] z (rw (length-rows (rowOf ws k) (count ws (k / 4))) l) ∙ ap g (getD-rows (rowOf ws k) (count ws (k / 4)) j [] l)
-
--- three vertices and their sides
-three-up : (a b c : ℕ) → ascends (a ∷ b ∷ c ∷ []) ≡ true → (a < b) × (b < c)
-unfolding ascends
-three-up a b c u = search (left, right, ltb-true) depth 6
-
-pair-up : (p q : ℕ) → p < q → ascends (p ∷ q ∷ []) ≡ true
-unfolding ascends
-pair-up p q l = rw (lt-ltb p q l)
 
 -- a book as in demand 3, and lists for which the call is accepted
 module _ (m : Mesh) (ws : List ℕ) (k : Kept m ws) (counts closures : List ℤ) (steps : List Float) (bytes : List ℕ)
@@ -94,7 +85,7 @@ module _ (m : Mesh) (ws : List ℕ) (k : Kept m ws) (counts closures : List ℤ)
 
     edge-between : (i p q : ℕ) → i < number m 2 → p < q → In p (entity m 2 i) → In q (entity m 2 i) → (j : ℕ) × Edge i p q j
     edge-between i p q l a x y =
-        let (j, n, e) = sub-entity m (k .formed) 1 2 i (p ∷ q ∷ []) (omega arith) two (omega arith) (omega (arith, two)) l (pair-up p q a) refl both in
+        let (j, n, e) = sub-entity m (k .formed) 1 2 i (p ∷ q ∷ []) (omega arith) two (omega arith) (omega (arith, two)) l (two-up p q a) refl both in
         (j, edge-of i j p q l n e (listed-inside m (k .formed) 2 1 i j (omega arith) n ∙ rw e (inside-of (p ∷ q ∷ []) (entity m 2 i) both)))
       where
         both : (v : ℕ) → In v (p ∷ q ∷ []) → In v (entity m 2 i)
@@ -105,7 +96,7 @@ module _ (m : Mesh) (ws : List ℕ) (k : Kept m ws) (counts closures : List ℤ)
     pub edges-of : (i a b c : ℕ) → i < number m 2 → entity m 2 i ≡ a ∷ b ∷ c ∷ [] → EdgesOf ws counts (stepsAfter ws counts closures steps bytes) (bytesAfter ws counts closures steps bytes) i a b c
     edges-of i a b c l e =
         let up : ascends (a ∷ b ∷ c ∷ []) ≡ true = ap ascends (sym e) ∙ good m (k .formed) 2 i (omega arith) (omega (arith, two)) l .up in
-        let (x, y) = three-up a b c up in
+        let (x, y) = three-apart a b c up in
         let first : In a (entity m 2 i) = rw e (here refl) in
         let second : In b (entity m 2 i) = rw e (there (here refl)) in
         let third : In c (entity m 2 i) = rw e (there (there (here refl))) in
