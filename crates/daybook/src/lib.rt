@@ -10,7 +10,7 @@
 // stand the relations by ascending 4d+e: N_d + 1 offsets, then the indices. Row i runs from offset
 // i up to, but without, offset i + 1. All words from the used length on are 0.
 //
-// No call asks anything of its caller. On a refusal no lent word or byte is altered.
+// No call asks anything of its caller. On a refusal nothing that was lent is altered.
 //
 // | no. | given exactly when                                          | by                      |
 // |-----|-------------------------------------------------------------|-------------------------|
