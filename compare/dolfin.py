@@ -5,8 +5,8 @@ their vertex sets, and for d ≠ e which of them touch, must be the same.
 
 It needs Debian's package python3-dolfin, and says so where that is missing. DOLFIN numbers edges and faces in an order of its
 own, so these are named by their vertices, and cells by their number besides. d→d is left to run.py: for DOLFIN an entity
-touches itself there and nothing else. Nor does it make relations of a mesh without cells, so there is none here; equal
-cells, vertices in no cell and facets in many cells are compared too.
+touches itself there and nothing else. Nor does it make relations of a mesh without cells, so there is none here; vertices
+in no cell and facets in many cells are compared too.
 """
 
 import argparse

@@ -14,7 +14,7 @@
 #include <sys/mman.h>
 #include <unistd.h>
 
-enum { STACK = 1 << 20, PROMISED = 512 << 10, LITTLE = 16 << 10, THREADS = 8, ROUNDS = 6, CALLS = 10 };
+enum { STACK = 1 << 20, THREADS = 8, ROUNDS = 6, CALLS = 10 };
 
 static void fail(const char *what) {
     printf("not as the header says: %s\n", what);
@@ -100,6 +100,19 @@ static unsigned below(unsigned n) {
     return (unsigned)((uint64_t)last * n >> 32);
 }
 
+/* Whether the mesh has a cell with these vertices, which are all different. */
+static int has(const struct mesh *m, const unsigned *v) {
+    unsigned size = m->dim + 1;
+    for (const unsigned *cell = m->corners; cell < m->corners + size * m->cells; cell += size) {
+        unsigned common = 0;
+        for (unsigned k = 0; k < size; k++)
+            for (unsigned j = 0; j < size; j++) common += cell[j] == v[k];
+        if (common == size) return 1;
+    }
+    return 0;
+}
+
+/* n different cells, of which the vertices have to allow so many. */
 static struct mesh random_cells(unsigned dim, unsigned vertices, unsigned n) {
     struct mesh m = empty(dim, vertices, n);
     m.sheet = 0;
@@ -109,7 +122,7 @@ static struct mesh random_cells(unsigned dim, unsigned vertices, unsigned n) {
             v[k] = below(vertices);
             for (unsigned j = 0; j < k; j++) distinct &= v[j] != v[k];
         }
-        if (distinct) add(&m, v[0], v[1], v[2], v[3]);
+        if (distinct && !has(&m, v)) add(&m, v[0], v[1], v[2], v[3]);
     }
     return m;
 }
@@ -326,6 +339,7 @@ static void side_by_side(void) {
 int main(void) {
     setvbuf(stdout, NULL, _IOLBF, 0);
     static const char *names[] = {"load", "ask", "make", "row", "write", "euler", "held_count", "find", "ask_list", "closures"};
+    static const size_t kilobytes[] = {128, 512, 512, 16, 64, 64, 16, 16, 512, 64};
     enough("a sheet of 3,698 triangles", sheet(44));
     enough("two stacked scans of 4,056 tetrahedra", stacked(27));
     enough("a chain of 4,096 intervals", chain(4096));
@@ -334,7 +348,7 @@ int main(void) {
     enough("one triangle", apart(2, 1));
     enough("no cells", chain(0));
     enough("a fan of 300 triangles", fan(300));
-    for (unsigned dim = 1; dim <= 3; dim++) enough("random cells on few vertices", random_cells(dim, 8, 250));
+    for (unsigned dim = 1; dim <= 3; dim++) enough("random cells on few vertices", random_cells(dim, 24, 250));
     for (unsigned dim = 1; dim <= 3; dim++) enough("random cells on many vertices", random_cells(dim, 900, 250));
     fill_counts();
     measure(sheet(45));
@@ -343,7 +357,7 @@ int main(void) {
     measure(chain(100));
     for (int k = 0; k < CALLS; k++) {
         printf("%s: %lu bytes of stack\n", names[k], (unsigned long)most[k]);
-        if (most[k] > (k == 1 || k == 2 || k == 8 ? PROMISED : LITTLE)) fail("the stack that a call needs");
+        if (most[k] > kilobytes[k] << 10) fail("the stack that a call needs");
     }
     reads_no_further();
     side_by_side();

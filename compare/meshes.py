@@ -1,26 +1,37 @@
 """Files and books to try: true, damaged and lying ones."""
 
-import random
+import itertools
+import math
 
 import reference as rules
 
 
 def random_mesh(rng, D, points, count):
-    """Cells of D + 1 different vertices in any order; a cell may come twice."""
+    """At most count different cells of D + 1 different vertices in any order."""
     if points < D + 1:
         count = 0
     near = rng.random() < 0.5
-    cells = []
+    cells, met = [], set()
     for _ in range(count):
-        if cells and rng.random() < 0.05:
-            cell = list(rng.choice(cells))
-        elif near:
+        if near:
             low = rng.randrange(max(1, points - D - 3))
             cell = rng.sample(range(low, min(points, low + D + 4)), D + 1)
         else:
             cell = rng.sample(range(points), D + 1)
-        rng.shuffle(cell)
-        cells.append(cell)
+        if frozenset(cell) not in met:
+            met.add(frozenset(cell))
+            cells.append(cell)
+    return D, points, cells
+
+
+def with_repeats(rng, mesh):
+    """The mesh with one to three cells more, each a cell that it has, its vertices in any order, anywhere behind or before it."""
+    D, points, cells = mesh
+    cells = list(cells)
+    for _ in range(rng.choice((1, 1, 1, 2, 3)) if cells else 0):
+        again = list(rng.choice(cells))
+        rng.shuffle(again)
+        cells.insert(rng.randrange(len(cells) + 1), again)
     return D, points, cells
 
 
@@ -31,6 +42,11 @@ def small_mesh(rng):
 def fan(points):
     """Triangles around vertex 0."""
     return 2, points, [[0, k, k + 1] for k in range(1, points - 1)]
+
+
+def pages(points):
+    """Triangles around the edge 0 1."""
+    return 2, points, [[0, 1, k] for k in range(2, points)]
 
 
 def sheet(n, m):
@@ -97,10 +113,12 @@ def damaged_file(rng, data):
 
 
 def faulty_file(rng):
-    """Cells with vertices out of range, vertices twice, or both, and perhaps bits after the end."""
+    """Cells with vertices out of range, vertices twice, cells twice, or more of these, and perhaps bits after the end."""
     D = rng.choice((1, 2, 3))
     points = rng.choice((0, 2, 4, 6))
     cells = [[rng.randrange(points + rng.choice((0, 0, 1))) if points else 0 for _ in range(D + 1)] for _ in range(rng.randrange(1, 6))]
+    if rng.random() < 0.4:
+        D, points, cells = with_repeats(rng, random_mesh(rng, D, 6, 6) if rng.random() < 0.7 else (D, points, cells))
     data = bytearray(rules.file_bytes(D, points, cells))
     if rng.random() < 0.3:
         data[-1] |= 1
@@ -108,9 +126,10 @@ def faulty_file(rng):
 
 
 def lying_book(rng, room):
-    """A book that breaks no rule and tells no truth: any rows that ascend and lie below the counts."""
+    """A book that breaks no rule and tells no truth: different cells, and else any rows that ascend and lie below the counts."""
     D = rng.choice((1, 2, 2, 3, 3))
-    points, cells = rng.choice((4, 5, 7)), rng.choice((0, 1, 2, 4))
+    points = rng.choice((4, 5, 7))
+    cells = min(rng.choice((0, 1, 2, 4)), math.comb(points, D + 1))
     held = {(D, 0)}
     if rng.random() < 0.4:
         held |= {(d, 0) for d in range(1, D)}
@@ -131,6 +150,8 @@ def lying_book(rng, room):
             else:
                 size = rng.randrange(min(counts[e], 4) + 1)
             rows.append(sorted(rng.sample(range(counts[e]), size)))
+        if (d, e) == (D, 0):
+            rows = [list(cell) for cell in rng.sample(list(itertools.combinations(range(points), D + 1)), cells)]
         words += rules.words_of(rows)
     head = D << 30 | points << 16 | cells << 3
     inner = [counts[d] if 0 < d < D and (d, 0) in held else 0 for d in (1, 2)]
@@ -167,10 +188,17 @@ def damaged_book(rng, book):
 
 
 def worn_book(rng, book):
-    """A word changed that no frame rule looks at: an offset but the last, an index or a free word."""
+    """A word changed that no frame rule looks at: an offset but the last, an index or a free word; or a cell written over another one."""
     book = list(book)
     frame = rules.Frame.of(book)
     if frame is None:
+        return book
+    cells = frame.counts[frame.D]
+    if cells > 1 and rng.random() < 0.3:
+        size = frame.D + 1
+        first = frame.places[frame.D, 0] + cells + 1
+        one, other = [first + size * c for c in rng.sample(range(cells), 2)]
+        book[other:other + size] = book[one:one + size]
         return book
     lasts = {frame.places[r] + frame.counts[r[0]] for r in frame.held}
     places = [at for at in range(5, len(book)) if at not in lasts]

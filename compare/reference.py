@@ -30,7 +30,7 @@ def file_length(D, cells):
 
 
 def read_file(data):
-    """Refusals 1 to 9: (number, cell, None), or (0, None, (D, N_0, cells as they stand in the file))."""
+    """Refusals 1 to 8, 23 and 9: (number, cell, None), or (0, None, (D, N_0, cells as they stand in the file))."""
     if len(data) < 4:
         return 1, None, None
     bits = Bits(data)
@@ -52,6 +52,11 @@ def read_file(data):
     for c, cell in enumerate(cells):
         if len(set(cell)) < len(cell):
             return 8, c, None
+    earlier = set()
+    for c, cell in enumerate(cells):
+        if frozenset(cell) in earlier:
+            return 23, c, None
+        earlier.add(frozenset(cell))
     end = 32 + 13 * (D + 1) * count
     if bits.field(end, 8 * len(data) - end):
         return 9, None, None
@@ -138,13 +143,16 @@ class Frame:
             offsets = self.offsets(d, e)
             if offsets[0] != 0 or any(a > b for a, b in zip(offsets, offsets[1:])):
                 return False
-            for row in self.rows(d, e):
+            rows = self.rows(d, e)
+            for row in rows:
                 if any(a >= b for a, b in zip(row, row[1:])):
                     return False
                 if any(j >= self.counts[e] for j in row):
                     return False
                 if e == 0 and d > 0 and len(row) != d + 1:
                     return False
+            if (d, e) == (self.D, 0) and len(set(map(tuple, rows))) < len(rows):
+                return False
         return not any(self.book[self.book[4]:])
 
 

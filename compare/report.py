@@ -98,6 +98,7 @@ def cases():
     yield "refusal 7", rules.file_bytes(2, 3, t[2])
     yield "refusal 8", rules.file_bytes(2, 4, [[0, 1, 3], [1, 1, 3]])
     yield "refusal 9", bytes(whole[:-1]) + b"\x0d"
+    yield "refusal 23", rules.file_bytes(2, 4, [[0, 1, 3], [3, 0, 1]])
     rng = random.Random(6)
     for k in range(60):
         mesh = meshes.small_mesh(rng)
@@ -123,7 +124,7 @@ def main():
     got, _ = pieces.communicate()
     if got != expected(data):
         sys.exit("input in pieces: printed %r" % got)
-    for number in (1, 2, 3, 4, 5, 6, 7, 8, 9, 13):
+    for number in (1, 2, 3, 4, 5, 6, 7, 8, 9, 13, 23):
         if b"refused %d" % number not in given:
             sys.exit("refusal %d was not met" % number)
     print("the program printed what the separate program gives for %d files: %s"

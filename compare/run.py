@@ -300,15 +300,17 @@ class Runs:
         rng = self.rng
         self.use([rng.randrange(1 << 32) for _ in range(rng.choice((0, 4, 5, 6, 14, 40, 60, 119, 300, 900)))])
         for _ in range(rng.randrange(1, 4)):
-            data = rules.file_bytes(*meshes.small_mesh(rng))
+            mesh = meshes.small_mesh(rng)
+            if rng.random() < 0.06:
+                mesh = meshes.with_repeats(rng, mesh)
+            data = rules.file_bytes(*mesh)
             way = rng.random()
             if way < 0.3:
                 data = meshes.damaged_file(rng, data)
             elif way < 0.45:
                 data = meshes.faulty_file(rng)
             elif way < 0.6:
-                frame = rules.read_file(data)[2]
-                need = 6 + len(frame[2]) * (frame[0] + 2)
+                need = 6 + len(mesh[2]) * (mesh[0] + 2)
                 self.use([rng.randrange(1 << 32) for _ in range(need + rng.choice((-1, 0, 1)))])
             self.load(data)
             for _ in range(rng.randrange(7)):
@@ -344,7 +346,7 @@ class Runs:
             self.some_closures()
 
     def full_size(self):
-        """Meshes of the full size, those of bench/ among them: whole, and one vertex, one cell or one word too many."""
+        """Meshes of the full size, those of bench/ among them: whole, and one vertex, one cell or one word too many, or a cell twice."""
         rng = self.rng
         whole = meshes.scattered(4096, 8192)
         for mesh in (whole, meshes.sheet(46, 46), meshes.box(8, 8, 10), meshes.fan(4098), meshes.random_mesh(rng, 1, 8192, 4096)):
@@ -367,6 +369,7 @@ class Runs:
             self.held_count()
         self.lists_of_full_size()
         self.closures_of_full_size()
+        self.repeats_of_full_size()
         many = bytearray(rules.file_bytes(*whole))
         for at in (0, 2):
             more = bytearray(many)
@@ -400,6 +403,21 @@ class Runs:
                 off[which] += rng.choice((1, -1))
                 self.closures((counts + [0])[:off[0]], *self.unwritten(*off[1:]))
 
+    def repeats_of_full_size(self):
+        """Full meshes whose last cell is made another one, its vertices turned about: the first, the one before it, or any; then as books."""
+        rng = self.rng
+        for D, points, cells in (meshes.scattered(4096, 8192), meshes.fan(4098), meshes.pages(4098), meshes.random_mesh(rng, 1, 8192, 4096)):
+            last = len(cells) - 1
+            for again in (0, last - 1, rng.randrange(last)):
+                twice = cells[:last] + [cells[again][::-1]]
+                self.use([0xFFFFFFFF] * 60000)
+                self.demand("a cell at the end again", self.load(rules.file_bytes(D, points, twice)), 23)
+            self.load(rules.file_bytes(D, points, cells))
+            self.demand("0→D of different cells", self.relation("ask", 0, D), 0)
+            start, count = [rules.row(self.book, D, 0, c)[1] for c in (rng.randrange(last), last)], D + 1
+            self.use(self.book[:start[1]] + self.book[start[0]:start[0] + count] + self.book[start[1] + count:])
+            self.demand("the last cell of the book again", self.relation("ask", 0, 0), 11)
+
     def demand(self, what, got, wanted):
         if got != wanted:
             raise SystemExit("example: %s: %s, and the paper says %s" % (what, got, wanted))
@@ -415,7 +433,7 @@ class Runs:
             out.append(self.book[start : start + count])
 
     def examples(self):
-        """Examples by hand, whose numbers stand here as they were worked out: 10 and 11 of the paper, searches, lists of asks, and phase closures."""
+        """Examples by hand, whose numbers stand here as they were worked out: 10 and 11 of the paper, cells twice, searches, lists of asks, and phase closures."""
         t = rules.file_bytes(2, 4, [[0, 1, 3], [1, 2, 3]])
         for room, number in ((54, 0), (53, 13)):
             self.use([7] * room)
@@ -432,11 +450,42 @@ class Runs:
         self.demand("edges", self.rows_of(1, 0), [[0, 1], [0, 2], [0, 3], [1, 2], [1, 3], [2, 3]])
         self.euler()
         self.demand("Euler number", rules.euler(self.book), (0, 1))
+        self.cells_twice(t)
         self.searches(t)
         self.lists(t)
         self.phases(t)
         self.phases_refused(t)
         self.phases_cancel()
+
+    def cells_twice(self, t):
+        """A cell that repeats an earlier one, in files and in books; and an edge in three triangles, which is allowed."""
+        def loaded(cells, more=0, points=4):
+            data = bytearray(rules.file_bytes(2, points, cells))
+            data[-1] |= more
+            number = self.load(bytes(data))
+            return number, rules.read_file(bytes(data))[1]
+
+        one, other = [0, 1, 3], [1, 2, 3]
+        self.use([7] * 60)
+        for cells, more, wanted in (([one, [3, 0, 1]], 0, (23, 1)), ([one] * 3, 0, (23, 1)), ([one, other, [1, 3, 0], [3, 2, 1]], 0, (23, 2)),
+                                    ([other, one, [1, 3, 2]], 1, (23, 2)), ([one, one, [1, 1, 3]], 1, (8, 2)), ([one, one, [0, 1, 4]], 1, (7, 2)),
+                                    ([one, [0, 0, 0], [0, 0, 0]], 1, (8, 1)), ([one, other], 1, (9, None)), ([one, other], 0, (0, None))):
+            self.demand("cells %s" % cells, loaded(cells, more), wanted)
+        self.demand("0→2", self.relation("ask", 0, 2), 0)
+        right = list(self.book)
+        start = rules.row(right, 2, 0, 0)[1]
+        self.demand("the cells' words", right[start:start + 6], one + other)
+        for cells, number in ((one + one, 11), (other + other, 11), (one + [0, 2, 3], 0)):
+            self.use(right[:start] + cells + right[start + 6:])
+            self.demand("a book with %s" % cells, self.relation("ask", 2, 0), number)
+            self.demand("the same by make", self.relation("make", 2, 0), number or 14)
+            self.write(14)
+            self.euler()
+        self.use([7] * 200)
+        self.demand("three triangles at an edge", loaded([[0, 1, 2], [3, 1, 0], [4, 0, 1]], 0, 5), (0, None))
+        self.demand("1→2 and 2→2", [self.relation("ask", d, 2) for d in (1, 2)], [0, 0])
+        self.demand("the triangles at edge 0", self.rows_of(1, 2)[0], [0, 1, 2])
+        self.demand("beside each other", self.rows_of(2, 2), [[1, 2], [0, 2], [0, 1]])
 
     def searches(self, t):
         """Row 1 of 0→1 of T is 0 2 3, searched; each refusal; and the row with its words changed, so that it does not ascend."""

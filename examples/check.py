@@ -249,7 +249,8 @@ def refusals(folder):
     many = (2 << 30 | 4 << 16 | 4097 << 3).to_bytes(4, "big")
     for data, words in ((T[:3], "1"), (b"\0" + T[1:], "2"), (rules.file_bytes(2, 8193, []), "3"), (many, "4"),
                         (T[:3] + b"\x11" + T[4:], "5"), (T + b"\0", "6"), (b"\x80\x03" + T[2:], "7, cell 0"),
-                        (rules.file_bytes(2, 4, [[0, 1, 3], [1, 1, 3]]), "8, cell 1"), (T[:-1] + b"\x0d", "9")):
+                        (rules.file_bytes(2, 4, [[0, 1, 3], [1, 1, 3]]), "8, cell 1"), (T[:-1] + b"\x0d", "9"),
+                        (rules.file_bytes(2, 4, [[0, 1, 3], [3, 0, 1]]), "23, cell 1")):
         demand("draw", run("draw", put(day, data), svg), (1, "", "refused %s\n" % words))
     xy = os.path.join(folder, "bad.xy")
     for text, words in (("0 0\n1 0\n1 1\n", "3 lines for 4 vertices"), ("0 0\n1\n1 1\n0 1\n", "a line is not two numbers"),
@@ -303,6 +304,7 @@ def gmsh_files(folder):
                         (T_2.replace("4 2 0 5 7 10", "4 2 0 5 7 11"), "element 4 does not name 3 nodes of the file"),
                         (T_2.replace("4 2 0 5 7 10", "4 2 0 5 7"), "element 4 does not name 3 nodes of the file"),
                         (T_4.replace("9 5 7 10", "9 5 7 5"), "element 9 names a node twice"),
+                        (T_4.replace("9 5 7 10", "9 10 3 5"), "element 9 has the nodes of element 8; a day file has each cell once"),
                         (T_2.replace("7 1 1 0", "7 1 one 0"), shape % "2.2"), (T_2[:T_2.index("7 1 1 0")], shape % "2.2"),
                         (T_4.replace("9 5 7 10\n", ""), shape % "4.1"), (T_4[:T_4.index("$Elements")], shape % "4.1")):
         demand("from-msh", run("from-msh", put(msh, text), day), (1, "", "%s: %s\n" % (msh, words)))

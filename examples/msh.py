@@ -91,5 +91,10 @@ def mesh_of(data):
         raise Fault("%d vertices are too many; a day file has at most 8192" % len(tags))
     if len(chosen) > 4096:
         raise Fault("%d cells are too many; a day file has at most 4096" % len(chosen))
+    met = {}
+    for tag, _, nodes in chosen:
+        earlier = met.setdefault(frozenset(nodes), tag)
+        if earlier != tag:
+            raise Fault("element %s has the nodes of element %s; a day file has each cell once" % (tag, earlier))
     number = {tag: i for i, tag in enumerate(tags)}
     return (D, len(tags), [[number[v] for v in e[2]] for e in chosen]), [places[tag] for tag in tags]

@@ -98,7 +98,7 @@ class Picture:
     def draw_cells(self):
         lines = {closure: [] for closure in FACES}
         for cell, closure in zip(self.cells, self.closures):
-            same_way = shapes.turn(*[self.at[v] for v in cell]) >= 0  # else equal cells would cancel
+            same_way = shapes.turn(*[self.at[v] for v in cell]) >= 0  # else cells that overlap would cancel
             lines[closure].append(self.line(cell if same_way else cell[::-1]) + "Z")
         for closure in FACES if self.counted else (0,):
             self.path(FACES[closure], lines[closure], 'fill="%s"' % FILLS[closure])

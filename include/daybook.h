@@ -2,9 +2,9 @@
  * daybook: a day's mesh of triangles or tetrahedra, who touches whom in it, and how phase closes around its faces.
  *
  * A mesh has a dimension D (1, 2 or 3), N_0 vertices (at most 8,192) and N_D cells
- * (at most 4,096): intervals, triangles or tetrahedra. An entity is a pair (d, i): d = 0 is a
- * vertex, d = D a cell, d = 1 an edge, d = 2 a face; i counts within its own dimension.
- * The relation d -> e lists, for each entity (d, i), the entities of dimension e that touch it.
+ * (at most 4,096): intervals, triangles or tetrahedra, no two with the same vertices. An entity is a
+ * pair (d, i): d = 0 is a vertex, d = D a cell, d = 1 an edge, d = 2 a face; i counts within its own
+ * dimension. The relation d -> e lists, for each entity (d, i), the entities of dimension e that touch it.
  *
  * THE BOOK is an array of 32-bit words that you lend to each call. It holds one mesh and the
  * relations made so far:
@@ -15,8 +15,8 @@
  *   word 4      the used length in words
  *   words 5..   the relations held, by ascending 4d+e, each N_d + 1 offsets and then its indices
  *
- * Row i of a relation runs from offset i up to, but without, offset i + 1, and ascends strictly.
- * All words from the used length on are 0.
+ * Row i of a relation runs from offset i up to, but without, offset i + 1, and ascends strictly; no two
+ * rows of D -> 0 are equal. All words from the used length on are 0.
  *
  * HOW MANY WORDS. A loaded mesh takes 6 + N_D + N_D (D + 1) words. Each relation more takes
  * N_d + 1 words and one for each index. DAYBOOK_WORDS_SHEET(D, N_0, N_D) words are enough for all
@@ -28,8 +28,9 @@
  * applies, in the order given at the call. A refusal alters nothing that you lent.
  * What an out pointer points to is written only where the text says so, and else left alone.
  *
- * STACK. daybook_make, daybook_ask and daybook_ask_list need up to 512 KiB of stack (417 KiB were
- * measured, by painting it), the other calls less than 16 KiB.
+ * STACK, measured by painting it. daybook_make, daybook_ask and daybook_ask_list need up to 512 KiB
+ * (417 KiB were measured), daybook_load up to 128 KiB (113), daybook_write, daybook_euler and
+ * daybook_closures up to 64 KiB (49), the other calls less than 16 KiB (1).
  *
  * OWNERSHIP. Nothing is allocated, nothing is global, nothing is kept after a call returns: the
  * book, the file and the buffers stay yours. Calls on different books may run side by side in
@@ -61,7 +62,7 @@ enum {
     DAYBOOK_VERTEX_TWICE = 8,      /* a cell names a vertex twice; the lowest such cell is given */
     DAYBOOK_BITS_AFTER = 9,        /* a bit after the last vertex is set */
     DAYBOOK_FRAME_BROKEN = 10,     /* the book's head words or the sizes of its relations break the frame rule */
-    DAYBOOK_ROWS_BROKEN = 11,      /* the book's offsets, indices or free words break the row rule */
+    DAYBOOK_ROWS_BROKEN = 11,      /* the book's offsets, indices or free words break the row rule, or two rows of D -> 0 are equal */
     DAYBOOK_DIMENSION_OVER = 12,   /* d or e is over D; for daybook_closures, D is 1 */
     DAYBOOK_NO_ROOM = 13,          /* the used length afterwards would pass the book's length */
     DAYBOOK_ALREADY_HELD = 14,     /* the relation is held already */
@@ -72,7 +73,8 @@ enum {
     DAYBOOK_NO_SUCH_INDEX = 19,    /* j is N_e or more */
     DAYBOOK_PAIRS_OFF = 20,        /* half a pair, more than DAYBOOK_MOST_PAIRS pairs, or answers that have not one place a pair */
     DAYBOOK_LIST_LENGTH = 21,      /* a lent list is not as long as the mesh asks */
-    DAYBOOK_COUNT_OUTSIDE = 22     /* a count is neither from -32,768 to 32,767 nor DAYBOOK_MASKED */
+    DAYBOOK_COUNT_OUTSIDE = 22,    /* a count is neither from -32,768 to 32,767 nor DAYBOOK_MASKED */
+    DAYBOOK_CELL_TWICE = 23        /* two cells of the file have the same vertices; the lowest that repeats an earlier one is given */
 };
 
 /* The most pairs that daybook_ask_list takes. */
@@ -108,7 +110,8 @@ enum {
      2 * (2 * DAYBOOK_N1_(D, ND) + 6 * DAYBOOK_N2_(D, ND) + 14 * DAYBOOK_N3_(D, ND)) + (uint64_t)(ND) * (D) * ((D) + 1))
 
 /* Loads a day file into the book: every word is set, and D -> 0 alone is held. The old book is
- * not looked at. Refusals: 1 to 9, then 13. With 7 and 8 the cell's number is written to *cell. */
+ * not looked at. Refusals: 1 to 8, 23, 9, then 13. With 7, 8 and 23 the cell's number is written to
+ * *cell: the lowest with that fault. An edge or a face may lie in three cells or more. */
 uint32_t daybook_load(const uint8_t *file, size_t file_len, uint32_t *book, size_t book_len, uint32_t *cell);
 
 /* Makes the relation d -> e from what the book stores and puts it at its place; everything that it is

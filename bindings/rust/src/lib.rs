@@ -2,7 +2,7 @@
 //!
 //! A book is a slice of `u32` that you lend to each call; `include/daybook.h` says what stands in it. Nothing is
 //! allocated and nothing is kept. A refusal alters nothing that was lent. `make`, `ask` and `ask_list` need up to
-//! 512 KiB of stack.
+//! 512 KiB of stack, `load` up to 128 KiB, `write`, `euler` and `closures` up to 64 KiB.
 //!
 //! ```no_run
 //! # let file: Vec<u8> = Vec::new();
@@ -64,7 +64,7 @@ pub enum Refusal {
     BitsAfter,
     /// 10: the book's head words or the sizes of its relations break the frame rule.
     FrameBroken,
-    /// 11: the book's offsets, indices or free words break the row rule.
+    /// 11: the book's offsets, indices or free words break the row rule, or two rows of D→0 are equal.
     RowsBroken,
     /// 12: d or e is over D; for `closures`, D is 1.
     DimensionOver,
@@ -88,10 +88,12 @@ pub enum Refusal {
     ListLength,
     /// 22: a count is neither from −32,768 to 32,767 nor `MASKED`.
     CountOutside,
+    /// 23: a cell repeats an earlier one; the lowest such cell.
+    CellTwice(u32),
 }
 
 impl Refusal {
-    /// The paper's number of this refusal, 1 to 22.
+    /// The paper's number of this refusal, 1 to 23.
     pub fn number(self) -> u32 {
         match self {
             Refusal::FileTooShort => 1,
@@ -116,6 +118,7 @@ impl Refusal {
             Refusal::PairsOff => 20,
             Refusal::ListLength => 21,
             Refusal::CountOutside => 22,
+            Refusal::CellTwice(_) => 23,
         }
     }
 }
@@ -123,7 +126,7 @@ impl Refusal {
 impl fmt::Display for Refusal {
     fn fmt(&self, out: &mut fmt::Formatter<'_>) -> fmt::Result {
         match self {
-            Refusal::VertexOut(cell) | Refusal::VertexTwice(cell) => write!(out, "refused {}, cell {}", self.number(), cell),
+            Refusal::VertexOut(cell) | Refusal::VertexTwice(cell) | Refusal::CellTwice(cell) => write!(out, "refused {}, cell {}", self.number(), cell),
             _ => write!(out, "refused {}", self.number()),
         }
     }
@@ -131,7 +134,7 @@ impl fmt::Display for Refusal {
 
 impl std::error::Error for Refusal {}
 
-/// What a call's number means: accepted with `value`, or a refusal, with 7 and 8 of `cell`.
+/// What a call's number means: accepted with `value`, or a refusal, with 7, 8 and 23 of `cell`.
 fn answer<T>(number: u32, cell: u32, value: T) -> Result<T, Refusal> {
     Err(match number {
         0 => return Ok(value),
@@ -157,7 +160,8 @@ fn answer<T>(number: u32, cell: u32, value: T) -> Result<T, Refusal> {
         20 => Refusal::PairsOff,
         21 => Refusal::ListLength,
         22 => Refusal::CountOutside,
-        _ => unreachable!("the library gives 0 to 22"),
+        23 => Refusal::CellTwice(cell),
+        _ => unreachable!("the library gives 0 to 23"),
     })
 }
 

@@ -157,6 +157,9 @@ fn files_are_refused() {
     let mut twice = T;
     twice[11..13].copy_from_slice(&[0x00, 0x80]);
     assert_eq!(refused(&twice), Refusal::VertexTwice(1));
+    let again = [0x80, 0x04, 0x00, 0x10, 0x00, 0x00, 0x00, 0x40, 0x06, 0x00, 0x30, 0x00, 0x00, 0x04]; // 0 1 3, then 3 0 1
+    assert_eq!(refused(&again), Refusal::CellTwice(1));
+    assert_eq!(refused(&again).to_string(), "refused 23, cell 1");
     assert_eq!(with(13, 0x0D), Refusal::BitsAfter);
     assert_eq!(refused(&[]), Refusal::FileTooShort);
 }
@@ -186,9 +189,9 @@ fn numbers_are_the_papers() {
         Refusal::FileTooShort, Refusal::NoDimension, Refusal::ManyVertices, Refusal::ManyCells, Refusal::SpareBits, Refusal::FileLength,
         Refusal::VertexOut(0), Refusal::VertexTwice(0), Refusal::BitsAfter, Refusal::FrameBroken, Refusal::RowsBroken, Refusal::DimensionOver,
         Refusal::NoRoom, Refusal::AlreadyHeld, Refusal::NeedMissing, Refusal::NotHeld, Refusal::NoSuchEntity, Refusal::BufferTooShort,
-        Refusal::NoSuchIndex, Refusal::PairsOff, Refusal::ListLength, Refusal::CountOutside,
+        Refusal::NoSuchIndex, Refusal::PairsOff, Refusal::ListLength, Refusal::CountOutside, Refusal::CellTwice(0),
     ];
-    assert!(all.iter().map(|r| r.number()).eq(1..=22));
+    assert!(all.iter().map(|r| r.number()).eq(1..=23));
 }
 
 #[test]

@@ -1,117 +1,49 @@
 -- One entity more at the head of its chain.
-use mathlib.Core.Path.{_≡_, refl, sym, ap, _∙_}
+use mathlib.Core.Path.{_≡_, ap, _∙_}
 use mathlib.Core.Bool.{true, false}
-use mathlib.Core.Logic.{_⊎_, inl, inr}
 use mathlib.Core.List.{List, [], _∷_}
-use Prim.Native.Nat.{ℕ, _+_, _*_, _≤_, _<_}
+use Prim.Native.Nat.{ℕ, _+_, _*_, _<_}
 use native.Mathlib.Omega.{arith}
 use lib.ListN.{length, getD, set, replicate, length-set, length-replicate}
 use lib.Seq.{getD-set-same, getD-set-other}
 use Rattle.rules.specs.Lists.{anyOf, same}
 use Rattle.rules.specs.Made.{met}
-use Rattle.rules.proofs.Compared.{same-or-not}
-use Rattle.rules.proofs.Numbered.{last-or-below}
-use Rattle.rules.proofs.RightBook.{getD-zeros}
-use Rattle.building.specs.Sets.{entity, entities, Newest, Links, Chains}
-use Rattle.building.proofs.Entities.{entities-front, entities-more, newest-any}
+use Rattle.repeats.proofs.Chained.{chains-none, chains-alike, chains-more}
+use Rattle.repeats.proofs.Walked.{among-newest}
+use Rattle.building.specs.Sets.{entity, entities, Chained}
+use Rattle.building.proofs.Entities.{entities-front, entities-more, entity-only}
 
 -- no entity yet
-pub chains-none : (a b c : ℕ) → a ≡ 73728 → b ≡ 8192 → c ≡ 24576 → Chains (replicate a 0) (replicate b 0) (replicate c 0) 0
-chains-none a b c p q r = record {
-  links = record {
-    sets-long = length-replicate {A = ℕ} a 0 ∙ p;
-    next-long = length-replicate {A = ℕ} c 0 ∙ r;
-    most = omega arith;
-    older = λ i l. absurd (omega arith);
-  };
-  head-long = length-replicate {A = ℕ} b 0 ∙ q;
-  newest = λ v l. rw (getD-zeros b v) (record { within = omega arith; none = λ i a b. absurd (omega arith); lowest = λ i e. absurd (omega arith) });
-}
+pub chained-none : Chained (replicate 73728 0) (replicate 8192 0) (replicate 24576 0) 0
+chained-none = record { long = length-replicate {A = ℕ} 73728 0; chains = chains-none _ 8192 24576 }
 
--- words that are alike below 3n have the same chains below n
-newest-front : (xs ys : List ℕ) (n : ℕ) → ((j : ℕ) → j < 3 * n → getD ys j 0 ≡ getD xs j 0) → {v m p : ℕ} → m ≤ n → Newest xs v m p → Newest ys v m p
-newest-front xs ys n f l w = record {
-  within = w .within;
-  none = λ i a b e. w .none i a b (sym (f (3 * i) (omega arith)) ∙ e);
-  lowest = λ i e. f (3 * i) (omega (arith, w .within)) ∙ w .lowest i e;
-}
+module _ {sets head next : List ℕ} {n : ℕ} (k : Chained sets head next n) (s : List ℕ) (l : getD s 0 0 < 8192) where
+  -- one more than the newest entity with the candidate's lowest vertex, or 0
+  abbrev first : ℕ
+  first = getD head (getD s 0 0) 0
 
-module _ {sets head next : List ℕ} {n : ℕ} (k : Chains sets head next n) (v : ℕ) (l : v < 8192) (s : List ℕ) (e : getD s 0 0 ≡ v) where
   -- the candidate is looked for in the chain of its lowest vertex, and so among all
-  pub chain-any : anyOf (same s) (entities sets n) ≡ anyOf (same s) (entities sets (getD head v 0))
-  chain-any = newest-any sets s v n (getD head v 0) (k .newest v l) e
+  chain-any : anyOf (same s) (entities sets n) ≡ anyOf (same s) (entities sets first)
+  unfolding entities
+  chain-any = among-newest (entity sets) s (entity-only sets s) (k .chains .newest (getD s 0 0) l)
 
-  pub met-old : true ≡ anyOf (same s) (entities sets (getD head v 0)) → entities sets n ≡ met (entities sets n) s
+  pub met-old : true ≡ anyOf (same s) (entities sets first) → entities sets n ≡ met (entities sets n) s
   unfolding met
   met-old h = rw (chain-any, ← h)
 
-  pub chain-links : Links sets next (getD head v 0)
-  chain-links = record {
-    sets-long = k .links .sets-long;
-    next-long = k .links .next-long;
-    most = omega (arith, k .newest v l .within, k .links .most);
-    older = λ i m. k .links .older i (omega (arith, k .newest v l .within));
-  }
-
   module _ (h : n < 24576) (xs : List ℕ) (long : length xs ≡ 73728) (front : (j : ℕ) → j < 3 * n → getD xs j 0 ≡ getD sets j 0) (new : entity xs n ≡ s) where
-    pub met-new : false ≡ anyOf (same s) (entities sets (getD head v 0)) → entities xs (n + 1) ≡ met (entities sets n) s
+    -- the entities with the new one
+    pub met-new : false ≡ anyOf (same s) (entities sets first) → entities xs (n + 1) ≡ met (entities sets n) s
     unfolding met
     met-new q = rw (chain-any, ← q, entities-more xs n, new, entities-front sets xs n front)
 
-    lowest : getD xs (3 * n) 0 ≡ v
+    -- the chains with the new entity
+    pub chained-more : Chained xs (set head (getD s 0 0) (n + 1)) (set next n first) (n + 1)
     unfolding entity
-    lowest = let f : getD xs (3 * n) 0 ≡ getD s 0 0 = ap (λ (t : List ℕ). getD t 0 0) new in f ∙ e
-
-    older : (i : ℕ) → i < n + 1 → Newest xs (getD xs (3 * i) 0) i (getD (set next n (getD head v 0)) i 0)
-    older i m = go (same-or-not i n)
-      where
-        go : (i ≡ n) ⊎ (i ≡ n → ⊥) → Newest xs (getD xs (3 * i) 0) i (getD (set next n (getD head v 0)) i 0)
-        go (inl q) =
-            rw (q, lowest, getD-set-same next n (getD head v 0) 0 (omega (arith, k .links .next-long)))
-            (newest-front sets xs n front (omega arith) (k .newest v l))
-        go (inr q) =
-            rw (front (3 * i) (omega arith), getD-set-other next n i (getD head v 0) 0 q)
-            (newest-front sets xs n front (omega arith) (k .links .older i (omega arith)))
-
-    newest : (u : ℕ) → u < 8192 → Newest xs u (n + 1) (getD (set head v (n + 1)) u 0)
-    newest u m = go (same-or-not u v)
-      where
-        go : (u ≡ v) ⊎ (u ≡ v → ⊥) → Newest xs u (n + 1) (getD (set head v (n + 1)) u 0)
-        go (inl q) =
-            rw (q, getD-set-same head v (n + 1) 0 (omega (arith, k .head-long)))
-            (record {
-              within = omega arith;
-              none = λ i a b. absurd (omega arith);
-              lowest = λ i g. let o : i ≡ n = omega arith in rw o lowest;
-            })
-        go (inr q) =
-            let w = newest-front sets xs n front (omega arith) (k .newest u m) in
-            rw (getD-set-other head v u (n + 1) 0 q)
-            (record {
-              within = omega (arith, w .within);
-              none = λ i a b g. elim (last-or-below i n (omega arith)) [ inl o ↦ q (sym g ∙ rw o lowest) | inr o ↦ w .none i a o g ];
-              lowest = w .lowest;
-            })
-
-    pub chains-more : Chains xs (set head v (n + 1)) (set next n (getD head v 0)) (n + 1)
-    chains-more = record {
-      links = record {
-        sets-long = long;
-        next-long = length-set next n (getD head v 0) ∙ k .links .next-long;
-        most = omega arith;
-        older = older;
-      };
-      head-long = length-set head v (n + 1) ∙ k .head-long;
-      newest = newest;
+    chained-more = record {
+      long = long;
+      chains = chains-more (chains-alike (λ i m. front (3 * i) (omega arith)) (k .chains)) (getD s 0 0) l h (ap (λ (t : List ℕ). getD t 0 0) new);
     }
-
--- a list of three
-pub three-are : (s : List ℕ) → length s ≡ 3 → getD s 0 0 ∷ getD s 1 0 ∷ getD s 2 0 ∷ [] ≡ s
-three-are [] e = absurd (omega arith)
-three-are (x ∷ []) e = absurd (omega arith)
-three-are (x ∷ y ∷ []) e = absurd (omega arith)
-three-are (x ∷ y ∷ z ∷ []) e = refl
-three-are (x ∷ y ∷ z ∷ w ∷ t) e = absurd (omega arith)
 
 -- three words put down
 module _ (xs : List ℕ) (i a b c : ℕ) where

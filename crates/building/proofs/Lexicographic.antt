@@ -7,17 +7,9 @@ use borrow.Author.Tests.{eq-eqb, ne-eqb}
 use lib.ListN.{length, getD, take}
 use Rattle.rules.specs.Lists.{choose}
 use Rattle.rules.specs.Book.{most}
+use Rattle.rules.proofs.Numbered.{four-members}
 use Rattle.building.specs.Sets.{padded}
 use Rattle.building.specs.Cells.{Between}
-
--- a list of four
-pub four-are : (s : List ℕ) → length s ≡ 4 → getD s 0 0 ∷ getD s 1 0 ∷ getD s 2 0 ∷ getD s 3 0 ∷ [] ≡ s
-four-are [] e = absurd (omega arith)
-four-are (x ∷ []) e = absurd (omega arith)
-four-are (x ∷ y ∷ []) e = absurd (omega arith)
-four-are (x ∷ y ∷ z ∷ []) e = absurd (omega arith)
-four-are (x ∷ y ∷ z ∷ w ∷ []) e = refl
-four-are (x ∷ y ∷ z ∷ w ∷ u ∷ t) e = absurd (omega arith)
 
 -- how many there are
 pub most-triangle : (D d : ℕ) → D ≡ 2 → 3 ≡ most D d
@@ -51,7 +43,7 @@ module _ (cell : List ℕ) (four : length cell ≡ 4) {d D : ℕ} (b : Between d
   unfolding padded choose
   triangle e =
       let f : d ≡ 1 = omega (arith, b .low, b .high) in
-      rw (← most-triangle D d e, e, f, ← four-are cell four)
+      rw (← most-triangle D d e, e, f, four-members cell four)
 
   pub edges : (D ≡ 2 → ⊥) → d ≡ 1
       → take (most D d) ((v ∷ w ∷ 0 ∷ []) ∷ (v ∷ x ∷ 0 ∷ []) ∷ (v ∷ y ∷ 0 ∷ []) ∷ (w ∷ x ∷ 0 ∷ []) ∷ (w ∷ y ∷ 0 ∷ []) ∷ (x ∷ y ∷ 0 ∷ []) ∷ [])
@@ -59,7 +51,7 @@ module _ (cell : List ℕ) (four : length cell ≡ 4) {d D : ℕ} (b : Between d
   unfolding padded choose
   edges n f =
       let e : D ≡ 3 = omega (arith, b .low, b .high, b .most) in
-      rw (← most-edges D d n f, e, f, ← four-are cell four)
+      rw (← most-edges D d n f, e, f, four-members cell four)
 
   pub faces : (D ≡ 2 → ⊥) → (d ≡ 1 → ⊥)
       → take (most D d) ((v ∷ w ∷ x ∷ []) ∷ (v ∷ w ∷ y ∷ []) ∷ (v ∷ x ∷ y ∷ []) ∷ (w ∷ x ∷ y ∷ []) ∷ (0 ∷ 0 ∷ 0 ∷ []) ∷ (0 ∷ 0 ∷ 0 ∷ []) ∷ [])
@@ -68,4 +60,4 @@ module _ (cell : List ℕ) (four : length cell ≡ 4) {d D : ℕ} (b : Between d
   faces n m =
       let e : D ≡ 3 = omega (arith, b .low, b .high, b .most) in
       let f : d ≡ 2 = omega (arith, b .low, b .high) in
-      rw (← most-faces D d n m, e, f, ← four-are cell four)
+      rw (← most-faces D d n m, e, f, four-members cell four)

@@ -1,6 +1,5 @@
 -- Laws for the proofs of this crate.
 mod Entities
-mod Walk
 mod Chained
 mod Padding
 mod Lexicographic

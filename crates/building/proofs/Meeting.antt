@@ -19,7 +19,7 @@ use Rattle.rules.proofs.Numbered.{getD-map}
 use Rattle.rules.proofs.Joined.{map-last}
 use Rattle.relations.specs.Words.{part, startOf, rowAt}
 use Rattle.relations.proofs.Placed.{part-at, part-length, rows-fit}
-use Rattle.building.specs.Sets.{padded, entities, Chains}
+use Rattle.building.specs.Sets.{padded, entities, Chained}
 use Rattle.building.specs.Cells.{Between, Corners, Candidates}
 use Rattle.building.proofs.Entities.{entities-none}
 use Rattle.building.proofs.Padding.{metAll-last, built-last, padded-all, padded-length, padded-first}
@@ -28,21 +28,21 @@ use Rattle.building.proofs.Padding.{metAll-last, built-last, padded-all
 -- j candidates are met after the n entities of sets₀
 pub record Meeting (sets₀ : List ℕ) (n : ℕ) (candidates : List (List ℕ)) (many : ℕ) (sets head next : List ℕ) (m j : ℕ) : Type 0 where
   pub high : j ≤ many
-  pub chains : Chains sets head next m
+  pub chained : Chained sets head next m
   pub found : entities sets m ≡ metAll (entities sets₀ n) (take j candidates)
   pub few : m ≤ n + j
 
-pub meeting-none : (sets head next : List ℕ) (n : ℕ) (candidates : List (List ℕ)) (many : ℕ) → Chains sets head next n → Meeting sets n candidates many sets head next n 0
+pub meeting-none : (sets head next : List ℕ) (n : ℕ) (candidates : List (List ℕ)) (many : ℕ) → Chained sets head next n → Meeting sets n candidates many sets head next n 0
 unfolding metAll
-meeting-none sets head next n candidates many k = record { high = omega arith; chains = k; found = refl; few = omega arith }
+meeting-none sets head next n candidates many k = record { high = omega arith; chained = k; found = refl; few = omega arith }
 
 module _ {sets₀ : List ℕ} {n : ℕ} {candidates : List (List ℕ)} {many : ℕ} {sets head next : List ℕ} {m j : ℕ} (w : Meeting sets₀ n candidates many sets head next m j) where
-  pub meeting-more : j < many → many ≤ length candidates → {sets' head' next' : List ℕ} {r : ℕ} → Chains sets' head' next' r
+  pub meeting-more : j < many → many ≤ length candidates → {sets' head' next' : List ℕ} {r : ℕ} → Chained sets' head' next' r
       → entities sets' r ≡ met (entities sets m) (getD candidates j []) → r ≤ m + 1
       → Meeting sets₀ n candidates many sets' head' next' r (j + 1)
   meeting-more l h k e f = record {
     high = omega arith;
-    chains = k;
+    chained = k;
     found = e ∙ rw (w .found) (sym (metAll-last (entities sets₀ n) (take j candidates) (getD candidates j [])) ∙ rw (add-one j, take-suc candidates j [] (omega arith)));
     few = omega (arith, w .few);
   }
@@ -136,21 +136,21 @@ module _ {ws : List ℕ} {D at n : ℕ} (q : Corners ws D at n) (i : ℕ) (l : i
 -- the candidates of i cells are met
 pub record Found (ws : List ℕ) (at n d : ℕ) (sets head next : List ℕ) (m i : ℕ) : Type 0 where
   pub high : i ≤ n
-  pub chains : Chains sets head next m
+  pub chained : Chained sets head next m
   pub found : entities sets m ≡ map (padded d) (built d [] (map (rowAt ws at n) (upTo i)))
   pub few : m ≤ 6 * i
 
-pub found-none : (ws : List ℕ) (at n d : ℕ) (sets head next : List ℕ) → Chains sets head next 0 → Found ws at n d sets head next 0 0
+pub found-none : (ws : List ℕ) (at n d : ℕ) (sets head next : List ℕ) → Chained sets head next 0 → Found ws at n d sets head next 0 0
 unfolding upTo built
-found-none ws at n d sets head next k = record { high = omega arith; chains = k; found = entities-none sets; few = omega arith }
+found-none ws at n d sets head next k = record { high = omega arith; chained = k; found = entities-none sets; few = omega arith }
 
 module _ {ws : List ℕ} {at n d : ℕ} {sets head next : List ℕ} {m i : ℕ} (w : Found ws at n d sets head next m i) where
-  pub found-more : i < n → {sets' head' next' : List ℕ} {r : ℕ} → Chains sets' head' next' r → (ss : List (List ℕ))
+  pub found-more : i < n → {sets' head' next' : List ℕ} {r : ℕ} → Chained sets' head' next' r → (ss : List (List ℕ))
       → entities sets' r ≡ metAll (entities sets m) ss → ss ≡ map (padded d) (choose (d + 1) (rowAt ws at n i)) → r ≤ m + 6
       → Found ws at n d sets' head' next' r (i + 1)
   found-more l k ss e f g = record {
     high = omega arith;
-    chains = k;
+    chained = k;
     found =
         e ∙ rw (w .found, f)
         (padded-all d (built d [] (map (rowAt ws at n) (upTo i))) (choose (d + 1) (rowAt ws at n i))

@@ -13,7 +13,8 @@ ghost use lib.ListN.{length, getD, take};
 ghost use Rattle.rules.specs.Lists.{upTo, anyOf, same};
 ghost use Rattle.rules.specs.Made.{met, metAll, built};
 ghost use Rattle.relations.specs.Words.{rowAt};
-ghost use Rattle.building.specs.Sets.{padded, entity, entities, Links, Chains};
+ghost use Rattle.repeats.specs.Chains.{Links};
+ghost use Rattle.building.specs.Sets.{padded, entity, entities, lowest, Chained};
 ghost use Rattle.building.specs.Cells.{Between, Corners, Candidates};
 
 // Whether the candidate is entity i.
@@ -32,8 +33,8 @@ fn is_entity(sets: &[u32; 73728], i: usize, candidate: [u32; 3]) -> bool
 
 // Whether the candidate is among the entities of the chain that begins with `from`.
 fn met_before(sets: &[u32; 73728], next: &[u32; 24576], from: u32, candidate: [u32; 3]) -> bool
-    requires { ⌜ Links (now sets) (now next) from ⌝ ∗ ⌜ length candidate ≡ 3 ⌝
-        ∗ ⌜ ((i : ℕ) → from ≡ suc i → getD (now sets) (3 * i) 0 ≡ getD candidate 0 0) ⌝ }
+    requires { ⌜ length (now sets) ≡ 73728 ⌝ ∗ ⌜ Links (lowest (now sets)) 24576 (now next) from ⌝ ∗ ⌜ length candidate ≡ 3 ⌝
+        ∗ ⌜ ((i : ℕ) → from ≡ suc i → lowest (now sets) i ≡ getD candidate 0 0) ⌝ }
     ensures { λ r. ⌜ r ≡ anyOf (same candidate) (entities (now (sets .entry)) from) ⌝ }
 {
     let mut p = from;
@@ -67,8 +68,8 @@ fn meet(
     n: u32,
     candidate: [u32; 3],
 ) -> u32
-    requires { ⌜ Chains (now sets) (now head) (now next) n ⌝ ∗ ⌜ n < 24576 ⌝ ∗ ⌜ length candidate ≡ 3 ⌝ ∗ ⌜ getD candidate 0 0 < 8192 ⌝ }
-    ensures { λ r. ⌜ Chains (now (sets .exit)) (now (head .exit)) (now (next .exit)) r ⌝ }
+    requires { ⌜ Chained (now sets) (now head) (now next) n ⌝ ∗ ⌜ n < 24576 ⌝ ∗ ⌜ length candidate ≡ 3 ⌝ ∗ ⌜ getD candidate 0 0 < 8192 ⌝ }
+    ensures { λ r. ⌜ Chained (now (sets .exit)) (now (head .exit)) (now (next .exit)) r ⌝ }
     ensures { λ r. ⌜ entities (now (sets .exit)) r ≡ met (entities (now (sets .entry)) n) candidate ⌝ }
     ensures { λ r. ⌜ r ≤ n + 1 ⌝ }
 {
@@ -93,8 +94,8 @@ fn meet_cell(
     candidates: [[u32; 3]; 6],
     many: usize,
 ) -> u32
-    requires { ⌜ Chains (now sets) (now head) (now next) n ⌝ ∗ ⌜ n + 6 ≤ 24576 ⌝ ∗ ⌜ many ≤ 6 ⌝ ∗ ⌜ Candidates candidates many ⌝ }
-    ensures { λ r. ⌜ Chains (now (sets .exit)) (now (head .exit)) (now (next .exit)) r ⌝ }
+    requires { ⌜ Chained (now sets) (now head) (now next) n ⌝ ∗ ⌜ n + 6 ≤ 24576 ⌝ ∗ ⌜ many ≤ 6 ⌝ ∗ ⌜ Candidates candidates many ⌝ }
+    ensures { λ r. ⌜ Chained (now (sets .exit)) (now (head .exit)) (now (next .exit)) r ⌝ }
     ensures { λ r. ⌜ entities (now (sets .exit)) r ≡ metAll (entities (now (sets .entry)) n) (take many candidates) ⌝ }
     ensures { λ r. ⌜ r ≤ n + 6 ⌝ }
 {
@@ -117,8 +118,8 @@ pub(crate) fn meet_cells(
     top: u32,
     d: u32,
 ) -> u32
-    requires { ⌜ Chains (now sets) (now head) (now next) 0 ⌝ ∗ ⌜ Between d top ⌝ ∗ ⌜ Corners (now book) top (at .0) cells ⌝ }
-    ensures { λ r. ⌜ Chains (now (sets .exit)) (now (head .exit)) (now (next .exit)) r ⌝ }
+    requires { ⌜ Chained (now sets) (now head) (now next) 0 ⌝ ∗ ⌜ Between d top ⌝ ∗ ⌜ Corners (now book) top (at .0) cells ⌝ }
+    ensures { λ r. ⌜ Chained (now (sets .exit)) (now (head .exit)) (now (next .exit)) r ⌝ }
     ensures { λ r. ⌜ entities (now (sets .exit)) r ≡ map (padded d) (built d [] (map (rowAt (now (book .entry)) (at .0) cells) (upTo cells))) ⌝ }
 {
     let many = choices(top, d);

@@ -8,7 +8,8 @@
 // Word 0 is the file's first 32 bits, word 1 the sum of 2^(4d+e) over the relations d→e held,
 // words 2 and 3 are N_1 and N_2 where they are known, word 4 is the used length, and behind them
 // stand the relations by ascending 4d+e: N_d + 1 offsets, then the indices. Row i runs from offset
-// i up to, but without, offset i + 1. All words from the used length on are 0.
+// i up to, but without, offset i + 1. No two rows of D→0 are equal. All words from the used length
+// on are 0.
 //
 // No call asks anything of its caller. On a refusal nothing that was lent is altered.
 //
@@ -38,6 +39,8 @@
 // | 20  | half a pair, over 16 pairs, or not one place a pair         | ask_list                |
 // | 21  | a lent list is not one place a vertex, edge or face         | close                   |
 // | 22  | a count is not from −32,768 to 32,767, nor 65,536           | close                   |
+// | 23  | a cell has the vertices of an earlier one; with the lowest  | load, before 9          |
+// |     | such cell                                                   |                         |
 //
 // ask_list gives no other number as a call: what each of its asks is refused for stands among its answers.
 mod answers;

@@ -1,6 +1,6 @@
--- What comes with a number: the cell with 7 and 8, small dimensions with an accepted row, and a yes or no as a number.
+-- What comes with a number: the cell with 7, 8 and 23, small dimensions with an accepted row, and a yes or no as a number.
 use mathlib.Core.Path.{_≡_, refl, sym, ap, _∙_}
-use mathlib.Core.Bool.{Bool, true, false, cond, not}
+use mathlib.Core.Bool.{Bool, true, false, cond, not, _||_}
 use mathlib.Core.List.{List}
 use Prim.Native.Nat.{ℕ, _≤_, _<_}
 use native.Mathlib.Omega.{arith}
@@ -11,13 +11,9 @@ use Rattle.rules.specs.Book.{dim, key, frameRight}
 use Rattle.rules.proofs.FrameRule.{framed}
 use Rattle.rules.proofs.Accepted.{rowed}
 
-pub cell-out : (f ws : List ℕ) → loadNumber f ws ≡ 7 → loadCell f ws ≡ faultCell f
+pub cell-given : (f ws : List ℕ) (n : ℕ) → loadNumber f ws ≡ n → (eqb n 7 || eqb n 8 || eqb n 23) ≡ true → loadCell f ws ≡ faultCell f
 unfolding loadCell
-cell-out f ws e = rw e
-
-pub cell-twice : (f ws : List ℕ) → loadNumber f ws ≡ 8 → loadCell f ws ≡ faultCell f
-unfolding loadCell
-cell-twice f ws e = rw e
+cell-given f ws n e h = rw (e, h)
 
 -- an accepted row has a right frame
 frame-of : (ws : List ℕ) (d e i : ℕ) → rowNumber ws d e i ≡ 0 → frameRight ws ≡ true

@@ -16,11 +16,11 @@ use daybook::Loaded;
 use daybook::Made;
 use daybook::Written;
 
-// Loads a day file; with 7 and 8 the cell is written.
+// Loads a day file; with 7, 8 and 23 the cell is written.
 #[no_mangle]
 pub extern "C" fn daybook_load(file: &[u8], book: &mut [u32], cell: &mut u32) -> u32
     ensures number { λ r. ⌜ r ≡ loadNumber (now (file .entry)) (now (book .entry)) ⌝ }
-    ensures cell { λ r. ⌜ now (cell .exit) ≡ cond (eqb r 7 || eqb r 8) (faultCell (now (file .entry))) (now (cell .entry)) ⌝ }
+    ensures cell { λ r. ⌜ now (cell .exit) ≡ cond (eqb r 7 || eqb r 8 || eqb r 23) (faultCell (now (file .entry))) (now (cell .entry)) ⌝ }
     ensures words { λ r. ⌜ now (book .exit) ≡ loadWords (now (file .entry)) (now (book .entry)) ⌝ }
 {
     match daybook::load(file, book) {
@@ -38,6 +38,10 @@ pub extern "C" fn daybook_load(file: &[u8], book: &mut [u32], cell: &mut u32) ->
         Loaded::VertexTwice(c) => {
             *cell = c.0;
             8
+        }
+        Loaded::CellTwice(c) => {
+            *cell = c.0;
+            23
         }
         Loaded::BitsAfter => 9,
         Loaded::NoRoom => 13,

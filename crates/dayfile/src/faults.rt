@@ -1,13 +1,15 @@
-// The first fault of a file, in the order of refusals 1 to 9.
+// The first fault of a file, in the order of refusals 1 to 8, 23 and 9.
 ghost use mathlib.Core.Path.{_≡_};
-ghost use Prim.Native.Nat.{_≤_};
+ghost use Prim.Native.Nat.{_*_, _≤_, _<_};
 ghost use lib.ListN.{length as count, take};
 ghost use lib.Dec.{leb};
-ghost use Rattle.rules.specs.Lists.{firstAt};
-ghost use Rattle.rules.specs.File.{field, fileVertices, cellsInFile, outOf, twice, padSet, headDim, headVertices, headLength};
+ghost use Rattle.rules.specs.Lists.{firstAt, firstRepeated};
+ghost use Rattle.rules.specs.File.{field, outOf, twice, padSet, headVertices, headCells, headLength};
 ghost use Rattle.rules.specs.Calls.{fileNumber, faultCell};
+ghost use Rattle.repeats.specs.Rows.{rowAt, rowsIn};
 ghost use Rattle.dayfile.specs.Faults.{faultOf};
 ghost use Rattle.dayfile.specs.Numbers.{numbers};
+ghost use Rattle.dayfile.specs.Words.{Fits, Put, cellsIn};
 use crate::head::cells;
 use crate::head::dimension;
 use crate::head::end_bit;
@@ -19,7 +21,51 @@ use crate::kinds::Cell;
 use crate::kinds::Fault;
 use crate::kinds::Header;
 use crate::kinds::Vertex;
-use crate::reading::in_file;
+use crate::reading::cell;
+use repeats::first_repeated;
+
+// Puts a cell's vertices down as its four words.
+fn put_cell(words: &mut [u32; 16384], c: Cell, v: [Vertex; 4])
+    requires { ⌜ (c .0 < 4096) × (count (now words) ≡ 16384) ⌝ }
+    ensures { λ _. ⌜ rowAt 4 (now (words .exit)) (c .0) ≡ numbers v ⌝ }
+    ensures { λ _. ⌜ take (4 * c .0) (now (words .exit)) ≡ take (4 * c .0) (now (words .entry)) ⌝ }
+    ensures { λ _. ⌜ count (now (words .exit)) ≡ 16384 ⌝ }
+{
+    let at = 4 * c.0 as usize;
+    words[at] = v[0].0;
+    words[at + 1] = v[1].0;
+    words[at + 2] = v[2].0;
+    words[at + 3] = v[3].0;
+}
+
+// Puts the file's cells down one after another, each cell's vertices ascending.
+fn put_cells(file: &[u8], head: Header, words: &mut [u32; 16384])
+    requires { ⌜ Fits (head .0) (now words) ⌝ }
+    ensures { λ _. ⌜ Put (now (file .entry)) (now (words .exit)) (headCells (head .0)) ⌝ }
+{
+    let count = cells(head);
+    let mut c: u32 = 0;
+    while c < count {
+        let corners = cell(file, Cell(c));
+        let v = corners.vertices;
+        put_cell(words, Cell(c), v);
+        c += 1;
+    }
+}
+
+// A cell's four words.
+fn cell_at(words: &[u32; 16384], c: Cell) -> [Vertex; 4]
+    requires { ⌜ (c .0 < 4096) × (count (now words) ≡ 16384) ⌝ }
+    ensures { λ r. ⌜ numbers r ≡ rowAt 4 (now (words .entry)) (c .0) ⌝ }
+{
+    let at = 4 * c.0 as usize;
+    [
+        Vertex(words[at]),
+        Vertex(words[at + 1]),
+        Vertex(words[at + 2]),
+        Vertex(words[at + 3]),
+    ]
+}
 
 // Whether the vertex is N_0 or more.
 fn is_out(v: Vertex, head: Header) -> bool
@@ -44,16 +90,15 @@ fn out_of(v: [Vertex; 4], n: usize, head: Header) -> bool
 }
 
 // The lowest cell with a vertex out of range, or N_D where there is none.
-fn first_out(file: &[u8], head: Header) -> Cell
-    requires { ⌜ head .0 ≡ field (now file) 0 32 ⌝ }
-    ensures { λ r. ⌜ r .0 ≡ firstAt (outOf (fileVertices (now (file .entry)))) (cellsInFile (now (file .entry))) ⌝ }
+fn first_out(words: &[u32; 16384], head: Header) -> Cell
+    requires { ⌜ Fits (head .0) (now words) ⌝ }
+    ensures { λ r. ⌜ r .0 ≡ firstAt (outOf (headVertices (head .0))) (cellsIn (head .0) (now (words .entry))) ⌝ }
 {
     let count = cells(head);
-    let dim = dimension(head);
-    let n = dim as usize + 1;
+    let n = dimension(head) as usize + 1;
     let mut at: u32 = 0;
     while at < count {
-        if out_of(in_file(file, dim, Cell(at)), n, head) {
+        if out_of(cell_at(words, Cell(at)), n, head) {
             return Cell(at);
         }
         at += 1;
@@ -62,16 +107,15 @@ fn first_out(file: &[u8], head: Header) -> Cell
 }
 
 // The lowest cell that names a vertex twice, or N_D where there is none.
-fn first_twice(file: &[u8], head: Header) -> Cell
-    requires { ⌜ head .0 ≡ field (now file) 0 32 ⌝ }
-    ensures { λ r. ⌜ r .0 ≡ firstAt twice (cellsInFile (now (file .entry))) ⌝ }
+fn first_twice(words: &[u32; 16384], head: Header) -> Cell
+    requires { ⌜ Fits (head .0) (now words) ⌝ }
+    ensures { λ r. ⌜ r .0 ≡ firstAt twice (cellsIn (head .0) (now (words .entry))) ⌝ }
 {
     let count = cells(head);
-    let dim = dimension(head);
-    let n = dim as usize + 1;
+    let n = dimension(head) as usize + 1;
     let mut c: u32 = 0;
     'cells: while c < count {
-        let v = in_file(file, dim, Cell(c));
+        let v = cell_at(words, Cell(c));
         let mut i: usize = 0;
         while i < n {
             let mut j = i + 1;
@@ -86,6 +130,14 @@ fn first_twice(file: &[u8], head: Header) -> Cell
         c += 1;
     }
     Cell(c)
+}
+
+// The lowest cell that repeats an earlier one, or N_D where none does.
+fn first_again(words: &[u32; 16384], head: Header) -> Cell
+    requires { ⌜ Fits (head .0) (now words) ⌝ }
+    ensures { λ r. ⌜ r .0 ≡ firstRepeated (rowsIn 4 (now (words .entry)) (headCells (head .0))) ⌝ }
+{
+    Cell(first_repeated(words, 4, cells(head) as usize) as u32)
 }
 
 // Whether a bit after the last vertex is set, where the file's length is right.
@@ -123,13 +175,19 @@ pub fn fault(file: &[u8]) -> Fault
     if file.len() != length(head) {
         return Fault::WrongLength;
     }
-    let out = first_out(file, head);
+    let mut words = [0u32; 16384];
+    put_cells(file, head, &mut words);
+    let out = first_out(&words, head);
     if out.0 < cell_count {
         return Fault::VertexOut(out);
     }
-    let twice = first_twice(file, head);
+    let twice = first_twice(&words, head);
     if twice.0 < cell_count {
         return Fault::VertexTwice(twice);
+    }
+    let again = first_again(&words, head);
+    if again.0 < cell_count {
+        return Fault::CellTwice(again);
     }
     if bits_after(file, head) {
         return Fault::BitsAfter;

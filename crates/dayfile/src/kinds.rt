@@ -14,7 +14,7 @@ pub struct Corners {
     pub vertices: [Vertex; 4],
 }
 
-// The first fault of a file, in the order of refusals 1 to 9; with 7 and 8 the lowest cell that has it.
+// The first fault of a file, in the order of refusals 1 to 8, 23 and 9; with 7 and 8 the lowest cell that has it, with 23 the lowest cell that repeats an earlier one.
 pub enum Fault {
     None,
     Short,
@@ -25,5 +25,6 @@ pub enum Fault {
     WrongLength,
     VertexOut(Cell),
     VertexTwice(Cell),
+    CellTwice(Cell),
     BitsAfter,
 }

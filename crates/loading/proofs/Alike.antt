@@ -6,7 +6,7 @@ use Prim.Native.Nat.{ℕ}
 use lib.Dec.{eqb}
 use Rattle.rules.specs.Calls.{loadNumber, loadCell}
 use Rattle.loading.specs.declared.answers.Loaded.{Loaded}
-use Rattle.loading.specs.declared.answers.Loaded.the-variants.{Accepted, FileTooShort, NoDimension, ManyVertices, ManyCells, SpareBits, FileLength, VertexOut, VertexTwice, BitsAfter, NoRoom}
+use Rattle.loading.specs.declared.answers.Loaded.the-variants.{Accepted, FileTooShort, NoDimension, ManyVertices, ManyCells, SpareBits, FileLength, VertexOut, VertexTwice, CellTwice, BitsAfter, NoRoom}
 use Rattle.loading.specs.Answers.{loadedNumber, loadedCell}
 
 -- the answer of a number and a cell
@@ -21,7 +21,8 @@ loadedOf n c =
     (cond (eqb n 6) FileLength
     (cond (eqb n 7) (VertexOut (record { 0 = c }))
     (cond (eqb n 8) (VertexTwice (record { 0 = c }))
-    (cond (eqb n 9) BitsAfter NoRoom)))))))))
+    (cond (eqb n 23) (CellTwice (record { 0 = c }))
+    (cond (eqb n 9) BitsAfter NoRoom))))))))))
 
 loaded-back : (a : Loaded) → loadedOf (loadedNumber a) (loadedCell a) ≡ a
 unfolding loadedOf loadedNumber loadedCell
@@ -34,6 +35,7 @@ loaded-back SpareBits = refl
 loaded-back FileLength = refl
 loaded-back (VertexOut c) = refl
 loaded-back (VertexTwice c) = refl
+loaded-back (CellTwice c) = refl
 loaded-back BitsAfter = refl
 loaded-back NoRoom = refl
 

@@ -1,12 +1,12 @@
 -- Load's number is the file's, or 13 where the file has no fault and the book no room.
 use mathlib.Core.Path.{_≡_, refl, sym, ap, _∙_}
-use mathlib.Core.Bool.{Bool, true, false, cond, _||_, _&&_}
+use mathlib.Core.Bool.{Bool, true, false, cond, _||_}
 use mathlib.Core.List.{List, [], _∷_, _++_}
-use Prim.Native.Nat.{ℕ, zero, suc, _+_, _*_, _≤_, _<_}
+use Prim.Native.Nat.{ℕ, _+_, _*_, _≤_, _<_}
 use native.Mathlib.Omega.{arith}
 use lib.ListN.{length}
 use lib.Dec.{eqb, ltb}
-use borrow.Author.Tests.{ltb-true, ne-eqb, eq-eqb, eqb-false, lt-ltb, le-ltb}
+use borrow.Author.Tests.{ltb-true, ne-eqb, eq-eqb, lt-ltb, le-ltb}
 use Rattle.rules.specs.Lists.{allOf, filled}
 use Rattle.rules.specs.File.{field, headCells, headDim}
 use Rattle.rules.specs.Calls.{Rule, firstBroken, loaded, fileRules, fileNumber, faultCell, loadRules, loadNumber, loadCell, loadWords}
@@ -15,7 +15,7 @@ use Rattle.rules.proofs.Head.{head-cells, head-dim}
 use Rattle.rules.proofs.LoadedWords.{loaded-length}
 use Rattle.dayfile.specs.declared.kinds.Fault.{Fault}
 use Rattle.dayfile.specs.Faults.{faultNumber, cellNumber, faultOf}
-use Rattle.dayfile.proofs.Answers.{file-most, number-back}
+use Rattle.dayfile.proofs.Answers.{number-back, cell-back}
 
 -- the first broken of two lists of rules, none of whose answers is 0
 first-of-two : (rs ss : List (Rule ℕ)) → allOf (λ r. ltb 0 (r .answer)) rs ≡ true
@@ -36,23 +36,8 @@ load-splits : (f ws : List ℕ) → loadNumber f ws ≡ cond (eqb (fileNumber f)
 unfolding loadNumber loadRules fileNumber
 load-splits f ws = first-of-two (fileRules f) _ (unfold allOf fileRules in refl) ∙ unfold firstBroken in refl
 
--- the cell that a fault carries
-cell-back : (n c : ℕ) → n ≤ 9 → cellNumber (faultOf n c) ≡ cond (eqb n 7 || eqb n 8) c 0
-unfolding cellNumber faultOf
-cell-back zero c l = refl
-cell-back (suc zero) c l = refl
-cell-back (suc (suc zero)) c l = refl
-cell-back (suc (suc (suc zero))) c l = refl
-cell-back (suc (suc (suc (suc zero)))) c l = refl
-cell-back (suc (suc (suc (suc (suc zero))))) c l = refl
-cell-back (suc (suc (suc (suc (suc (suc zero)))))) c l = refl
-cell-back (suc (suc (suc (suc (suc (suc (suc zero))))))) c l = refl
-cell-back (suc (suc (suc (suc (suc (suc (suc (suc zero)))))))) c l = refl
-cell-back (suc (suc (suc (suc (suc (suc (suc (suc (suc zero))))))))) c l = refl
-cell-back (suc (suc (suc (suc (suc (suc (suc (suc (suc (suc n)))))))))) c l = absurd (omega arith)
-
 -- the cell and the words, from the number
-cell-of : (f ws : List ℕ) (n : ℕ) → loadNumber f ws ≡ n → loadCell f ws ≡ cond (eqb n 7 || eqb n 8) (faultCell f) 0
+cell-of : (f ws : List ℕ) (n : ℕ) → loadNumber f ws ≡ n → loadCell f ws ≡ cond (eqb n 7 || eqb n 8 || eqb n 23) (faultCell f) 0
 unfolding loadCell
 cell-of f ws n e = rw e
 
@@ -77,7 +62,7 @@ module _ (f ws : List ℕ) (fault : Fault) (found : fault ≡ faultOf (fileNumbe
       let e : loadNumber f ws ≡ fileNumber f = load-splits f ws ∙ rw n in
       record {
         number-is = number-is ∙ sym e;
-        cell-is = ap cellNumber found ∙ cell-back (fileNumber f) (faultCell f) (file-most f) ∙ sym (cell-of f ws (fileNumber f) e);
+        cell-is = ap cellNumber found ∙ cell-back f ∙ sym (cell-of f ws (fileNumber f) e);
         words-are = sym (words-of f ws (fileNumber f) e ∙ rw n);
       }
 

@@ -12,6 +12,7 @@ pub enum Loaded {
     FileLength,
     VertexOut(Cell),
     VertexTwice(Cell),
+    CellTwice(Cell),
     BitsAfter,
     NoRoom,
 }

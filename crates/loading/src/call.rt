@@ -22,6 +22,7 @@ fn number_of(f: Fault) -> u32
         Fault::WrongLength => 6,
         Fault::VertexOut(_) => 7,
         Fault::VertexTwice(_) => 8,
+        Fault::CellTwice(_) => 23,
         Fault::BitsAfter => 9,
     }
 }
@@ -40,11 +41,12 @@ fn refused(f: Fault) -> Loaded
         Fault::WrongLength => Loaded::FileLength,
         Fault::VertexOut(c) => Loaded::VertexOut(c),
         Fault::VertexTwice(c) => Loaded::VertexTwice(c),
+        Fault::CellTwice(c) => Loaded::CellTwice(c),
         Fault::BitsAfter => Loaded::BitsAfter,
     }
 }
 
-// Loads a day file: refusals 1 to 9 in their order, with 7 and 8 the lowest cell, then 13. Accepted, it sets every word of the book, and it does not look at the old one.
+// Loads a day file: refusals 1 to 8, 23 and 9 in their order, with 7, 8 and 23 the lowest cell, then 13. Accepted, it sets every word of the book, and it does not look at the old one.
 pub fn load(file: &[u8], book: &mut [u32]) -> Loaded
     ensures number { λ r. ⌜ loadedNumber r ≡ loadNumber (now (file .entry)) (now (book .entry)) ⌝ }
     ensures cell { λ r. ⌜ loadedCell r ≡ loadCell (now (file .entry)) (now (book .entry)) ⌝ }

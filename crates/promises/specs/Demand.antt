@@ -20,12 +20,12 @@ use Rattle.promises.specs.Plan.{makePlan, askPlan, answersPlan, rowPlan,
 abbrev pub HeldTrue : Type 0
 HeldTrue = (m : Mesh) (ws : List ℕ) → Reached m ws → (k : ℕ) → held ws k ≡ true → rowsOf ws k ≡ trueRows m (k / 4) (k % 4)
 
--- the edges and faces that are not cells are all different vertex sets
+-- the edges, the faces and the cells are all different vertex sets
 abbrev pub Different : Type 0
-Different = (m : Mesh) (ws : List ℕ) → Reached m ws → (d i j : ℕ) → 0 < d → d < m .dims → held ws (key d 0) ≡ true
+Different = (m : Mesh) (ws : List ℕ) → Reached m ws → (d i j : ℕ) → 0 < d → d ≤ m .dims → held ws (key d 0) ≡ true
     → i < count ws d → j < count ws d → rowOf ws (key d 0) i ≡ rowOf ws (key d 0) j → i ≡ j
 
--- and each lies inside some cell
+-- and each edge and face that is no cell lies inside some cell
 abbrev pub InSomeCell : Type 0
 InSomeCell = (m : Mesh) (ws : List ℕ) → Reached m ws → (d i : ℕ) → 0 < d → d < m .dims → held ws (key d 0) ≡ true
     → i < count ws d → anyOf (inside (rowOf ws (key d 0) i)) (m .cells) ≡ true

@@ -1,2 +1,3 @@
 pub mod Offsets
+pub mod Cells
 pub mod Determined

@@ -1,18 +1,22 @@
 // The row rule, relation by relation in book order, and a row as a part of the book.
 ghost use mathlib.Core.Path.{_≡_};
-ghost use mathlib.Core.Bool.{Bool, not, _&&_, _||_};
+ghost use mathlib.Core.Bool.{Bool, true, not, _&&_, _||_};
 ghost use Prim.Native.Nat.{ℕ, _+_, _-_, _*_, _/_, _%_, _≤_, _<_, min};
 ghost use lib.ListN.{length, getD, take, drop};
 ghost use lib.Dec.{eqb, ltb};
-ghost use Rattle.rules.specs.Lists.{allOf, ascends, rises};
+ghost use Rattle.rules.specs.Lists.{allOf, repeats, ascends, rises};
 ghost use Rattle.rules.specs.Book as rule;
 ghost use Rattle.rows.specs.Parts.{PartOf, RowPart};
+ghost use Rattle.rows.specs.Laid.{Laid};
 use book::Place;
 use book::behind;
 use book::count;
+use book::dim;
 use book::held;
+use book::key;
 use book::place_of;
 use book::word;
+use repeats::first_repeated;
 
 // The lesser of two numbers.
 fn lesser(a: usize, b: usize) -> usize
@@ -140,15 +144,33 @@ fn rows_of_right(book: &[u32], k: u32, at: Place) -> bool
     true
 }
 
-// Whether the relation of key k, which stands at `at`, has 0 as its first offset, offsets that never fall, and right rows.
+// Whether two rows of D→0, which stands at `at` and whose offsets and rows are right, are equal.
+fn cells_repeat(book: &[u32], at: Place) -> bool
+    requires { ⌜ rule.frameRight (now book) ≡ true ⌝ ∗ ⌜ at .0 ≡ rule.place (now book) (rule.key (rule.dim (now book)) 0) ⌝
+        ∗ ⌜ Laid (now book) (rule.key (rule.dim (now book)) 0) ⌝ }
+    ensures { λ r. ⌜ r ≡ repeats (rule.rowsOf (now (book .entry)) (rule.key (rule.dim (now (book .entry))) 0)) ⌝ }
+{
+    let d = dim(book);
+    let n = count(book, d) as usize;
+    let size = (d + 1) as usize;
+    first_repeated(part(book, Place(at.0 + n + 1), size * n), size, n) < n
+}
+
+// Whether the relation of key k, which stands at `at`, has 0 as its first offset, offsets that never fall, right rows, and, if it is D→0, no two equal ones.
 fn relation_right(book: &[u32], k: u32, at: Place) -> bool
-    requires { ⌜ (k < 16) × (at .0 ≡ rule.place (now book) k) ⌝ }
+    requires { ⌜ rule.frameRight (now book) ≡ true ⌝ ∗ ⌜ (k < 16) × (at .0 ≡ rule.place (now book) k) ⌝ }
     ensures { λ r. ⌜ r ≡ rule.relationRight (now (book .entry)) k ⌝ }
 {
     if word(book, at) != 0 {
         return false;
     }
-    rows_of_right(book, k, at)
+    if !rows_of_right(book, k, at) {
+        return false;
+    }
+    if k != key(dim(book), 0) {
+        return true;
+    }
+    !cells_repeat(book, at)
 }
 
 // Whether all the words are 0: they are put together by or, and tested once.
@@ -178,8 +200,9 @@ fn free_right(book: &[u32]) -> bool
     true
 }
 
-// The row rule.
+// The row rule, in a right frame.
 pub fn rows_right(book: &[u32]) -> bool
+    requires { ⌜ rule.frameRight (now book) ≡ true ⌝ }
     ensures { λ r. ⌜ r ≡ rule.rowsRight (now (book .entry)) ⌝ }
 {
     let mut at = Place(5);

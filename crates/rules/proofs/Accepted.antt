@@ -8,7 +8,7 @@ use lib.ListN.{length, length-append, length-replicate}
 use lib.Dec.{eqb, ltb, leb}
 use lib.IntN.{ℤ}
 use borrow.Author.Tests.{not-true, not-false, ltb-true, ltb-false, leb-false, eqb-true, eqb-false, eq-eqb, ne-eqb, le-ltb}
-use Rattle.rules.specs.Lists.{anyOf, allOf, filled}
+use Rattle.rules.specs.Lists.{anyOf, allOf, repeats, sorted, filled}
 use Rattle.rules.specs.File.{fileDim, fileVertices, fileCells, fileSpare, lengthOf, cellsInFile, outOf, twice, padSet}
 use Rattle.rules.specs.Book.{dim, count, key, held, needs, rowOf, frameRight, rowsRight}
 use Rattle.rules.specs.Calls.{Rule, firstBroken, loaded, fileRules, loadRules, loadNumber, loadWords, added, makeRules, makeNumber, makeWords, asked, askRules, askNumber, askWords, wordsOf, pairsOff, listRules, listNumber, listWords, rowRules, rowNumber, rowPart, foundIn, readIn, findRules, findNumber, findFound, findRead}
@@ -70,6 +70,7 @@ pub record Loads (f ws : List ℕ) : Type 0 where
   pub size : length f ≡ lengthOf (fileDim f) (fileCells f)
   pub within : anyOf (outOf (fileVertices f)) (cellsInFile f) ≡ false
   pub apart : anyOf twice (cellsInFile f) ≡ false
+  pub unlike : repeats (map sorted (cellsInFile f)) ≡ false
   pub ended : padSet f ≡ false
   pub fits : length (loaded f) ≤ length ws
 
@@ -82,15 +83,16 @@ unfolding loadRules fileRules allOf
 loads f ws h =
     let r = load-rules f ws h in
     record {
-      low = let n : eqb (fileDim f) 0 ≡ false = search (left, right, not-true) depth 12 in let z = eqb-false (fileDim f) 0 n in omega arith;
-      vertices = search (left, right, not-true, ltb-false) depth 13;
-      cells = search (left, right, not-true, ltb-false) depth 13;
-      spare = let n : ltb 0 (fileSpare f) ≡ false = search (left, right, not-true) depth 12 in let z = ltb-false 0 (fileSpare f) n in omega arith;
-      size = let n : not (not (eqb (length f) (lengthOf (fileDim f) (fileCells f)))) ≡ true = search (left, right) depth 12 in eqb-true _ _ (not-false _ (not-true _ n));
-      within = search (left, right, not-true) depth 12;
-      apart = search (left, right, not-true) depth 12;
-      ended = search (left, right, not-true) depth 12;
-      fits = search (left, right, not-true, ltb-false) depth 13;
+      low = let n : eqb (fileDim f) 0 ≡ false = search (left, right, not-true) depth 13 in let z = eqb-false (fileDim f) 0 n in omega arith;
+      vertices = search (left, right, not-true, ltb-false) depth 14;
+      cells = search (left, right, not-true, ltb-false) depth 14;
+      spare = let n : ltb 0 (fileSpare f) ≡ false = search (left, right, not-true) depth 13 in let z = ltb-false 0 (fileSpare f) n in omega arith;
+      size = let n : not (not (eqb (length f) (lengthOf (fileDim f) (fileCells f)))) ≡ true = search (left, right) depth 13 in eqb-true _ _ (not-false _ (not-true _ n));
+      within = search (left, right, not-true) depth 13;
+      apart = search (left, right, not-true) depth 13;
+      unlike = search (left, right, not-true) depth 13;
+      ended = search (left, right, not-true) depth 13;
+      fits = search (left, right, not-true, ltb-false) depth 14;
     }
 
 -- and it is accepted if all that holds
@@ -98,7 +100,7 @@ pub accepts : (f ws : List ℕ) → Loads f ws → loadNumber f ws ≡ 0
 unfolding loadNumber loadRules fileRules firstBroken
 accepts f ws a =
     let l : 4 ≤ length f = rw (a .size) (unfold lengthOf in omega arith) in
-    rw (le-ltb (length f) 4 l, ne-eqb (fileDim f) 0 (omega (arith, a .low)), le-ltb 8192 (fileVertices f) (a .vertices), le-ltb 4096 (fileCells f) (a .cells), le-ltb 0 (fileSpare f) (omega (arith, a .spare)), eq-eqb (length f) (lengthOf (fileDim f) (fileCells f)) (a .size), a .within, a .apart, a .ended, le-ltb (length ws) (length (loaded f)) (a .fits))
+    rw (le-ltb (length f) 4 l, ne-eqb (fileDim f) 0 (omega (arith, a .low)), le-ltb 8192 (fileVertices f) (a .vertices), le-ltb 4096 (fileCells f) (a .cells), le-ltb 0 (fileSpare f) (omega (arith, a .spare)), eq-eqb (length f) (lengthOf (fileDim f) (fileCells f)) (a .size), a .within, a .apart, a .unlike, a .ended, le-ltb (length ws) (length (loaded f)) (a .fits))
 
 pub load-accepted : (f ws : List ℕ) → loadNumber f ws ≡ 0 → loadWords f ws ≡ filled (length ws) (loaded f)
 unfolding loadWords

@@ -1,21 +1,27 @@
 -- The number of a file's first fault, test by test in their order.
 use mathlib.Core.Path.{_≡_, _∙_}
 use mathlib.Core.Bool.{Bool, true, false}
-use mathlib.Core.List.{List}
+use mathlib.Core.List.{List, map}
 use Prim.Native.Nat.{ℕ, _≤_, _<_}
-use lib.ListN.{length}
+use lib.ListN.{length, length-map}
+use lib.Dec.{ltb}
 use borrow.Author.Tests.{lt-ltb, le-ltb, eq-eqb, ne-eqb}
-use Rattle.rules.specs.Lists.{anyOf, firstAt}
+use Rattle.rules.specs.Lists.{anyOf, firstAt, repeats, firstRepeated, sorted}
 use Rattle.rules.specs.File.{fileDim, fileVertices, fileCells, fileSpare, fileCell, lengthOf, cellsInFile, outOf, twice, padSet}
 use Rattle.rules.specs.Calls.{firstBroken, fileRules, fileNumber, faultCell}
 use Rattle.rules.proofs.Numbered.{length-rows}
 use Rattle.rules.proofs.Searched.{any-first}
+use Rattle.rules.proofs.Unlike.{repeats-first}
 
 pub all-cells : (f : List ℕ) → length (cellsInFile f) ≡ fileCells f
 unfolding cellsInFile
 all-cells f = length-rows (fileCell f) (fileCells f)
 
 module _ (f : List ℕ) where
+  -- two cells are equal exactly when the lowest that equals an earlier one is a cell
+  pub repeats-file : repeats (map sorted (cellsInFile f)) ≡ ltb (firstRepeated (map sorted (cellsInFile f))) (fileCells f)
+  repeats-file = repeats-first (map sorted (cellsInFile f)) ∙ rw (length-map (cellsInFile f) sorted, all-cells f)
+
   pub short : length f < 4 → fileNumber f ≡ 1
   unfolding fileNumber fileRules firstBroken
   short h = rw (lt-ltb (length f) 4 h)
@@ -66,17 +72,23 @@ module _ (f : List ℕ) where
                     rw (le-ltb (length f) 4 a, ne-eqb (fileDim f) 0 b, le-ltb 8192 (fileVertices f) c, le-ltb 4096 (fileCells f) d, le-ltb 0 (fileSpare f) e, eq-eqb (length f) (lengthOf (fileDim f) (fileCells f)) g, none (outOf (fileVertices f)) i, found twice h)
 
                 module _ (j : fileCells f ≤ firstAt twice (cellsInFile f)) where
-                  pub bits-after : padSet f ≡ true → fileNumber f ≡ 9
+                  pub cell-repeated : firstRepeated (map sorted (cellsInFile f)) < fileCells f → fileNumber f ≡ 23
                   unfolding fileNumber fileRules firstBroken
-                  bits-after h =
-                      rw (le-ltb (length f) 4 a, ne-eqb (fileDim f) 0 b, le-ltb 8192 (fileVertices f) c, le-ltb 4096 (fileCells f) d, le-ltb 0 (fileSpare f) e, eq-eqb (length f) (lengthOf (fileDim f) (fileCells f)) g, none (outOf (fileVertices f)) i, none twice j, h)
+                  cell-repeated h =
+                      rw (le-ltb (length f) 4 a, ne-eqb (fileDim f) 0 b, le-ltb 8192 (fileVertices f) c, le-ltb 4096 (fileCells f) d, le-ltb 0 (fileSpare f) e, eq-eqb (length f) (lengthOf (fileDim f) (fileCells f)) g, none (outOf (fileVertices f)) i, none twice j, repeats-file, lt-ltb _ _ h)
 
-                  pub no-fault : padSet f ≡ false → fileNumber f ≡ 0
-                  unfolding fileNumber fileRules firstBroken
-                  no-fault h =
-                      rw (le-ltb (length f) 4 a, ne-eqb (fileDim f) 0 b, le-ltb 8192 (fileVertices f) c, le-ltb 4096 (fileCells f) d, le-ltb 0 (fileSpare f) e, eq-eqb (length f) (lengthOf (fileDim f) (fileCells f)) g, none (outOf (fileVertices f)) i, none twice j, h)
+                  module _ (k : fileCells f ≤ firstRepeated (map sorted (cellsInFile f))) where
+                    pub bits-after : padSet f ≡ true → fileNumber f ≡ 9
+                    unfolding fileNumber fileRules firstBroken
+                    bits-after h =
+                        rw (le-ltb (length f) 4 a, ne-eqb (fileDim f) 0 b, le-ltb 8192 (fileVertices f) c, le-ltb 4096 (fileCells f) d, le-ltb 0 (fileSpare f) e, eq-eqb (length f) (lengthOf (fileDim f) (fileCells f)) g, none (outOf (fileVertices f)) i, none twice j, repeats-file, le-ltb (firstRepeated (map sorted (cellsInFile f))) (fileCells f) k, h)
 
--- the cell that comes with 7 and 8
+                    pub no-fault : padSet f ≡ false → fileNumber f ≡ 0
+                    unfolding fileNumber fileRules firstBroken
+                    no-fault h =
+                        rw (le-ltb (length f) 4 a, ne-eqb (fileDim f) 0 b, le-ltb 8192 (fileVertices f) c, le-ltb 4096 (fileCells f) d, le-ltb 0 (fileSpare f) e, eq-eqb (length f) (lengthOf (fileDim f) (fileCells f)) g, none (outOf (fileVertices f)) i, none twice j, repeats-file, le-ltb (firstRepeated (map sorted (cellsInFile f))) (fileCells f) k, h)
+
+-- the cell that comes with 7, 8 and 23
 pub cell-out : (f : List ℕ) → fileNumber f ≡ 7 → faultCell f ≡ firstAt (outOf (fileVertices f)) (cellsInFile f)
 unfolding faultCell
 cell-out f h = rw h
@@ -84,3 +96,7 @@ cell-out f h = rw h
 pub cell-twice : (f : List ℕ) → fileNumber f ≡ 8 → faultCell f ≡ firstAt twice (cellsInFile f)
 unfolding faultCell
 cell-twice f h = rw h
+
+pub cell-repeats : (f : List ℕ) → fileNumber f ≡ 23 → faultCell f ≡ firstRepeated (map sorted (cellsInFile f))
+unfolding faultCell
+cell-repeats f h = rw h

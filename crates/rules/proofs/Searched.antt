@@ -15,7 +15,7 @@ use Rattle.rules.specs.Lists.{upTo, anyOf, firstAt, has}
 use Rattle.rules.specs.File.{twice}
 use Rattle.rules.proofs.Tests.{agree, or-right, has-of, has-is, cases, getD-in}
 use Rattle.rules.proofs.Compared.{order}
-use Rattle.rules.proofs.Numbered.{last-or-below, length-rows, getD-rows}
+use Rattle.rules.proofs.Numbered.{last-or-below, length-upTo, getD-upTo, length-rows, getD-rows}
 
 module _ {ℓ} {A : Type ℓ} (p : A → Bool) where
   -- some member passes exactly when the first that does lies within the list
@@ -93,6 +93,33 @@ module _ {ℓ} {A : Type ℓ} (p : A → Bool) (d : A) where
       go (inl e) = e
       go (inr (inl m)) = absurd (false≢true (sym (b (firstAt p xs) m) ∙ first-passes xs (omega arith)))
       go (inr (inr m)) = absurd (false≢true (sym (first-before xs i m) ∙ t (omega (arith, first-most xs))))
+
+-- the same among the numbers below n
+module _ (p : ℕ → Bool) (n : ℕ) where
+  pub least-most : firstAt p (upTo n) ≤ n
+  least-most = rw length-upTo at (first-most p 0 (upTo n))
+
+  pub least-passes : firstAt p (upTo n) < n → p (firstAt p (upTo n)) ≡ true
+  least-passes l = rw (getD-upTo n (firstAt p (upTo n)) 0 l) at (first-passes p 0 (upTo n) (rw length-upTo l))
+
+  pub least-before : (j : ℕ) → j < firstAt p (upTo n) → p j ≡ false
+  least-before j l = rw (getD-upTo n j 0 (omega (arith, least-most))) at (first-before p 0 (upTo n) j l)
+
+  pub least-is : (i : ℕ) → i ≤ n → ((j : ℕ) → j < i → p j ≡ false) → (i < n → p i ≡ true) → firstAt p (upTo n) ≡ i
+  least-is i l b t =
+      first-is p 0 (upTo n) i (rw length-upTo l) (λ j m. rw (getD-upTo n j 0 (omega arith)) (b j m))
+      (λ m. let k : i < n = rw length-upTo at m in rw (getD-upTo n i 0 k) (t k))
+
+-- two tests that agree below n
+pub least-agree : (p q : ℕ → Bool) (n : ℕ) → ((i : ℕ) → i < n → p i ≡ q i) → firstAt p (upTo n) ≡ firstAt q (upTo n)
+least-agree p q n g =
+    least-is p n (firstAt q (upTo n)) (least-most q n) (λ j l. g j (omega (arith, least-most q n)) ∙ least-before q n j l) (λ l. g (firstAt q (upTo n)) l ∙ least-passes q n l)
+
+-- members changed in a way that the test does not mind
+pub first-mapped {ℓ} : {A : Type ℓ} (p : A → Bool) (g : A → A) → ((x : A) → p (g x) ≡ p x) → (xs : List A) → firstAt p (map g xs) ≡ firstAt p xs
+unfolding firstAt
+first-mapped p g h [] = refl
+first-mapped p g h (x ∷ xs) = rw (h x, first-mapped p g h xs)
 
 -- ---- a member that stands twice
 -- of any two places below n, the members differ

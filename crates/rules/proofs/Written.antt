@@ -194,6 +194,7 @@ module _ (m : Mesh) (s : Formed m) where
     size = rw (head .dims, head .cells) (unfold fileOf in length-packed (lengthOf (m .dims) (length (m .cells))) (fileBits m));
     within = rw (head .vertices, cells-back) (any-none (outOf (m .vertices)) (m .cells) (λ c i. unfold outOf in any-none (λ v. leb (m .vertices) v) c (λ v j. lt-leb (m .vertices) v (s .below c i v j))));
     apart = rw cells-back (any-none twice (m .cells) (λ c i. up-once c (s .up c i)));
+    unlike = rw (cells-back, map-same sorted (m .cells) (λ c i. sorted-same c (s .up c i))) (s .unlike);
     ended = pad-clear;
     fits = l;
   }

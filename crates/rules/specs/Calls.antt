@@ -5,7 +5,7 @@ use Prim.Native.Nat.{ℕ, zero, suc, _+_, _-_, _/_, _%_, _^_}
 use lib.ListN.{length, getD, take, drop}
 use lib.Dec.{eqb, ltb, leb}
 use lib.IntN.{ℤ, subℕ}
-use Rattle.rules.specs.Lists.{anyOf, allOf, has, joined, sorted, firstAt, filled}
+use Rattle.rules.specs.Lists.{anyOf, allOf, has, repeats, firstRepeated, joined, sorted, firstAt, filled}
 use Rattle.rules.specs.File.{field, fileDim, fileVertices, fileCells, fileSpare, lengthOf, cellsInFile, outOf, twice, padSet, fileBytes}
 use Rattle.rules.specs.Book.{dim, count, key, held, keysHeld, place, offset, total, rowOf, rowsOf, relation, needs, frameRight, rowsRight}
 use Rattle.rules.specs.Made.{made}
@@ -32,7 +32,7 @@ loaded f =
     let cells = relation (map sorted (cellsInFile f)) in
     field f 0 32 ∷ (2 ^ key (fileDim f) 0) ∷ 0 ∷ 0 ∷ (5 + length cells) ∷ cells
 
--- the faults of a file: refusals 1 to 9
+-- the faults of a file: refusals 1 to 8, 23 where two cells have equal vertex sets, and 9
 unfoldable pub fileRules : List ℕ → List (Rule ℕ)
 fileRules f =
     rule (ltb (length f) 4) 1
@@ -43,6 +43,7 @@ fileRules f =
     ∷ rule (not (eqb (length f) (lengthOf (fileDim f) (fileCells f)))) 6
     ∷ rule (anyOf (outOf (fileVertices f)) (cellsInFile f)) 7
     ∷ rule (anyOf twice (cellsInFile f)) 8
+    ∷ rule (repeats (map sorted (cellsInFile f))) 23
     ∷ rule (padSet f) 9
     ∷ []
 
@@ -50,11 +51,13 @@ fileRules f =
 unfoldable pub fileNumber : List ℕ → ℕ
 fileNumber f = firstBroken (fileRules f) 0
 
--- with 7 and 8: the number of the lowest cell with that fault
+-- with 7 and 8: the number of the lowest cell with that fault; with 23: of the lowest cell that repeats an earlier one
 unfoldable pub faultCell : List ℕ → ℕ
-faultCell f = cond (eqb (fileNumber f) 7) (firstAt (outOf (fileVertices f)) (cellsInFile f)) (firstAt twice (cellsInFile f))
+faultCell f =
+    cond (eqb (fileNumber f) 7) (firstAt (outOf (fileVertices f)) (cellsInFile f))
+    (cond (eqb (fileNumber f) 8) (firstAt twice (cellsInFile f)) (firstRepeated (map sorted (cellsInFile f))))
 
--- Load's refusals: 1 to 9, then 13
+-- Load's refusals: those of the file, then 13
 unfoldable pub loadRules : List ℕ → List ℕ → List (Rule ℕ)
 loadRules f ws = fileRules f ++ (rule (ltb (length ws) (length (loaded f))) 13 ∷ [])
 
@@ -62,9 +65,9 @@ loadRules f ws = fileRules f ++ (rule (ltb (length ws) (length (loaded f))) 13 �
 unfoldable pub loadNumber : List ℕ → List ℕ → ℕ
 loadNumber f ws = firstBroken (loadRules f ws) 0
 
--- the cell that comes with Load's number: with 7 and 8 the lowest cell with that fault, else 0
+-- the cell that comes with Load's number: with 7, 8 and 23 the lowest cell with that fault, else 0
 unfoldable pub loadCell : List ℕ → List ℕ → ℕ
-loadCell f ws = cond (eqb (loadNumber f ws) 7 || eqb (loadNumber f ws) 8) (faultCell f) 0
+loadCell f ws = cond (eqb (loadNumber f ws) 7 || eqb (loadNumber f ws) 8 || eqb (loadNumber f ws) 23) (faultCell f) 0
 
 -- the book after Load: every word is set, or none
 unfoldable pub loadWords : List ℕ → List ℕ → List ℕ

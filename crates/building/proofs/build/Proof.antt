@@ -1,8 +1,7 @@
 -- A book that is ready for d→0 has cells as the loops ask for them, and the sets that they meet are d→0 as the rules make it.
-use mathlib.Core.Path.{refl}
 use native.Mathlib.Omega.{arith}
 use Rattle.relations.proofs.Right.{used-fits}
-use Rattle.building.proofs.Chained.{chains-none}
+use Rattle.building.proofs.Chained.{chained-none}
 use Rattle.building.proofs.Standing.{between, ready-corners, made-rows, made-count}
 use borrow.Author.Needs.{needs}
 use Rattle.building.proofs.build.Statement.{statement}
@@ -14,7 +13,7 @@ cast-meet-cells c = search needs
 meet-cells-requires : tie.Need-meet-cells-requires
 meet-cells-requires c κs =
     let q = c .before .before .before .before .before .before .before .pre in
-    (chains-none 73728 8192 24576 refl refl refl, (between (q .0) (q .1 .0) (q .1 .1), ready-corners (q .0) (q .1 .0) (q .1 .1)))
+    (chained-none, (between (q .0) (q .1 .0) (q .1 .1), ready-corners (q .0) (q .1 .0) (q .1 .1)))
 
 write-sets-requires : tie.Need-write-sets-requires
 write-sets-requires c κs =
@@ -22,7 +21,7 @@ write-sets-requires c κs =
     let q = m .before .before .before .before .before .before .before .before .pre in
     let k = m .meet-cells .ensures .0 in
     let b = between (q .0) (q .1 .0) (q .1 .1) in
-    ((omega (arith, k .links .most), (k .links .sets-long, used-fits (q .0))), (b .low, omega (arith, b .high, b .most)))
+    ((omega (arith, k .chains .links .most), (k .long, used-fits (q .0))), (b .low, omega (arith, b .high, b .most)))
 
 same-length : tie.Need-same-length
 same-length c = search needs

@@ -25,7 +25,10 @@ held-requires : tie.Need-held-requires Inv-loop μ-loop
 held-requires c κs = tt
 
 relation-right-requires : tie.Need-relation-right-requires Inv-loop μ-loop
-relation-right-requires c κs = (omega (arith, c .before .before .loop-test .taken), c .before .before .before .loop .inv .1 .0)
+relation-right-requires c κs = (
+  c .before .before .before .before .before .pre,
+  (omega (arith, c .before .before .loop-test .taken), c .before .before .before .loop .inv .1 .0),
+)
 
 returns : tie.Need-returns Inv-loop μ-loop
 unfolding rowsRight keysHeld

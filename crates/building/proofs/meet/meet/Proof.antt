@@ -1,7 +1,8 @@
 -- The candidate is looked for in the chain of its lowest vertex; a new one goes to the chain's head.
-use mathlib.Core.Path.{refl, sym, _∙_}
+use mathlib.Core.Path.{sym, _∙_}
 use native.Mathlib.Omega.{arith}
-use Rattle.building.proofs.Chained.{met-old, met-new, chain-links, chains-more}
+use Rattle.repeats.proofs.Chained.{chain-links}
+use Rattle.building.proofs.Chained.{met-old, met-new, chained-more}
 use borrow.Author.Needs.{needs}
 use Rattle.building.proofs.meet.meet.Statement.{statement}
 use Rattle.building.proofs.meet.meet.Tie as tie
@@ -22,13 +23,13 @@ met-before-requires : tie.Need-met-before-requires
 met-before-requires c κs =
     let s = c .before .before .before in
     let k = s .pre .0 in
-    (chain-links k _ (s .pre .1 .1 .1) (s .args .t5) refl, (s .pre .1 .1 .0, k .newest _ (s .pre .1 .1 .1) .lowest))
+    (k .long, (chain-links (k .chains) _ (s .pre .1 .1 .1), (s .pre .1 .1 .0, k .chains .newest _ (s .pre .1 .1 .1) .own)))
 
 returns : tie.Need-returns
 returns c =
     let s = c .before .before .before .before .before in
     let k = s .pre .0 in
-    (k, (met-old k _ (s .pre .1 .1 .1) (s .args .t5) refl (sym (c .if1 .taken) ∙ c .before .met-before .ensures), omega arith))
+    (k, (met-old k (s .args .t5) (s .pre .1 .1 .1) (sym (c .if1 .taken) ∙ c .before .met-before .ensures), omega arith))
 
 store-requires : tie.Need-store-requires
 store-requires c κs = search needs
@@ -56,8 +57,8 @@ returns-2 c =
     let s = c .before .before .before .before .before .before .before in
     let k = s .pre .0 in
     let e = c .store .ensures in (
-      chains-more k _ (s .pre .1 .1 .1) (s .args .t5) refl (s .pre .1 .0) (c .store .last .0) (e .1 .1) (e .1 .0) (e .0),
-      (met-new k _ (s .pre .1 .1 .1) (s .args .t5) refl (s .pre .1 .0) (c .store .last .0) (e .1 .1) (e .1 .0) (e .0) (sym (c .before .before .if1 .left) ∙ c .before .before .before .met-before .ensures), omega arith),
+      chained-more k (s .args .t5) (s .pre .1 .1 .1) (s .pre .1 .0) (c .store .last .0) (e .1 .1) (e .1 .0) (e .0),
+      (met-new k (s .args .t5) (s .pre .1 .1 .1) (s .pre .1 .0) (c .store .last .0) (e .1 .1) (e .1 .0) (e .0) (sym (c .before .before .if1 .left) ∙ c .before .before .before .met-before .ensures), omega arith),
     )
 
 pub meet-spec : {M : Type 1} → statement M

@@ -26,7 +26,7 @@ meet-requires c κs =
     let s = l .before .before in
     let q = s .pre .1 .1 .1 in
     let h = l .before .loop .inv in
-    (h .chains, (omega (arith, h .few, s .pre .1 .0, s .pre .1 .1 .0, l .loop-test .taken), (q .size _ (l .loop-test .taken), q .below _ (l .loop-test .taken))))
+    (h .chained, (omega (arith, h .few, s .pre .1 .0, s .pre .1 .1 .0, l .loop-test .taken), (q .size _ (l .loop-test .taken), q .below _ (l .loop-test .taken))))
 
 add-j : tie.Need-add-j Inv-loop μ-loop
 add-j c = omega arith
@@ -44,7 +44,7 @@ loop-again c =
 returns : tie.Need-returns Inv-loop μ-loop
 returns c =
     let h = c .before .loop .inv in
-    (h .chains, (meeting-all h (c .loop-test .left), omega (arith, h .few, h .high, c .before .before .pre .1 .1 .0)))
+    (h .chained, (meeting-all h (c .loop-test .left), omega (arith, h .few, h .high, c .before .before .pre .1 .1 .0)))
 
 pub meet-cell-spec : {M : Type 1} → statement M
 meet-cell-spec =

@@ -63,7 +63,7 @@ meet-cell-requires c κs =
     let h = turn c .before .loop .inv in
     let s = start c in
     let m = turn c .before .before .choices .ensures in
-    (h .chains, (omega (arith, h .few, turn c .loop-test .taken, s .pre .1 .1 .few), (omega (arith, m, most-few (s .args .top) (s .args .d)), rw m (candidates-good c))))
+    (h .chained, (omega (arith, h .few, turn c .loop-test .taken, s .pre .1 .1 .few), (omega (arith, m, most-few (s .args .top) (s .args .d)), rw m (candidates-good c))))
 
 add-c : tie.Need-add-c Inv-loop μ-loop
 add-c c = omega arith
@@ -79,7 +79,7 @@ loop-again c =
     found-more h (turn k .loop-test .taken) (e .0) _ (rw (turn k .before .before .choices .ensures) at (e .1 .0)) (candidates-are k) (e .1 .1)
 
 returns : tie.Need-returns Inv-loop μ-loop
-returns c = (c .before .loop .inv .chains, found-all (c .before .loop .inv) (c .loop-test .left))
+returns c = (c .before .loop .inv .chained, found-all (c .before .loop .inv) (c .loop-test .left))
 
 pub meet-cells-spec : {M : Type 1} → statement M
 meet-cells-spec =

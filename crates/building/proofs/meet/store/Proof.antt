@@ -1,7 +1,8 @@
 -- Three stores put the candidate's three words down.
 use lib.ListN.{getD}
-use mathlib.Core.Path.{_∙_}
-use Rattle.building.proofs.Chained.{stored-long, stored-front, stored-entity, three-are}
+use mathlib.Core.Path.{sym, _∙_}
+use Rattle.rules.proofs.Numbered.{three-members}
+use Rattle.building.proofs.Chained.{stored-long, stored-front, stored-entity}
 use borrow.Author.Needs.{needs}
 use Rattle.building.proofs.meet.store.Statement.{statement}
 use Rattle.building.proofs.meet.store.Tie as tie
@@ -52,7 +53,7 @@ returns : tie.Need-returns
 returns c =
     let a = c .args in
     let s = a .t3 in (
-      stored-entity (a .sets .now) (a .i) (getD s 0 0) (getD s 1 0) (getD s 2 0) (c .pre .0) (c .pre .1 .0) ∙ three-are s (c .pre .1 .1),
+      stored-entity (a .sets .now) (a .i) (getD s 0 0) (getD s 1 0) (getD s 2 0) (c .pre .0) (c .pre .1 .0) ∙ sym (three-members s (c .pre .1 .1)),
       (stored-front (a .sets .now) (a .i) (getD s 0 0) (getD s 1 0) (getD s 2 0), stored-long (a .sets .now) (a .i) (getD s 0 0) (getD s 1 0) (getD s 2 0) ∙ c .pre .1 .0),
     )
 

@@ -23,7 +23,7 @@ returns c =
     (g .number-is, g .words-are)
 
 rows-right-requires : tie.Need-rows-right-requires
-rows-right-requires c κs = search needs
+rows-right-requires c κs = unbroken _ _ (c .before .before .frame-right .ensures) (c .before .if1 .left)
 
 same-length-2 : tie.Need-same-length-2
 same-length-2 c = search needs

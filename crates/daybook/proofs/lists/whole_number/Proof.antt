@@ -24,7 +24,7 @@ returns-4 c =
     whole-frame _ _ _ (c .before .before .before .before .if1 .left) (omega arith) (c .before .before .if3 .left) f
 
 rows-right-requires : tie.Need-rows-right-requires
-rows-right-requires c κs = search needs
+rows-right-requires c κs = unbroken _ _ (c .before .frame-right .ensures) (c .if4 .left)
 
 returns-5 : tie.Need-returns-5
 returns-5 c =

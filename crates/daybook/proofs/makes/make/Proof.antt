@@ -44,7 +44,7 @@ returns c =
 
 -- src/makes.rt:37:9
 rows-right-requires : tie.Need-rows-right-requires
-rows-right-requires c κs = search needs
+rows-right-requires c κs = unbroken _ _ (c .before .before .frame-right .ensures) (c .before .if1 .left)
 
 -- src/makes.rt:38:9
 same-length-2 : tie.Need-same-length-2

@@ -25,7 +25,7 @@ returns c = let s = c .before .before .before .before in
 
 -- src/writes.rt:33:9
 rows-right-requires : tie.Need-rows-right-requires
-rows-right-requires c κs = search needs
+rows-right-requires c κs = unbroken _ _ (c .before .frame-right .ensures) (c .if1 .left)
 
 -- src/writes.rt:34:9
 returns-2 : tie.Need-returns-2

@@ -1,0 +1,62 @@
+-- Rows of which no two are equal, by their places.
+use mathlib.Core.Path.{_≡_, sym, _∙_}
+use mathlib.Core.Logic.{_⊎_, inl, inr}
+use mathlib.Core.Bool.{true, false, false≢true}
+use mathlib.Core.List.{List, [], List·Memᴰ as In}
+use Prim.Native.Nat.{ℕ, _<_}
+use native.Mathlib.Omega.{arith}
+use lib.ListN.{length, getD, take, length-take}
+use lib.Seq.{getD-take}
+use lib.Dec.{ltb}
+use Rattle.rules.specs.Lists.{upTo, same, repeated, repeats, firstRepeated}
+use Rattle.rules.proofs.Tests.{any-of, any-is, any-none, none-of, same-refl, same-is, getD-in, cases}
+use Rattle.rules.proofs.Keep.{upTo-of, upTo-is}
+use Rattle.rules.proofs.Numbered.{length-upTo}
+use Rattle.rules.proofs.Compared.{order}
+use Rattle.rules.proofs.Searched.{any-first, place-in}
+
+-- no two places hold the same row
+abbrev pub Unlike : List (List ℕ) → Type 0
+Unlike rs = (i j : ℕ) → i < length rs → j < length rs → getD rs i [] ≡ getD rs j [] → i ≡ j
+
+module _ (rs : List (List ℕ)) where
+  -- row i equals the earlier row j
+  pub repeated-of : (i j : ℕ) → j < i → i < length rs → getD rs i [] ≡ getD rs j [] → repeated rs i ≡ true
+  unfolding repeated
+  repeated-of i j l h e =
+      let n : j < length (take i rs) = rw length-take (omega arith) in
+      let m : In (getD rs j []) (take i rs) = rw (getD-take i rs j [] l) at (getD-in (take i rs) j [] n) in
+      any-of (same (getD rs i [])) m (rw e (same-refl (getD rs j [])))
+
+  pub repeated-is : (i : ℕ) → i < length rs → repeated rs i ≡ true → (j : ℕ) × (j < i) × (getD rs i [] ≡ getD rs j [])
+  unfolding repeated
+  repeated-is i h e =
+      let (r, m, q) = any-is (same (getD rs i [])) (take i rs) e in
+      let (j, l, p) = place-in (take i rs) [] m in
+      let k : j < i = omega (arith, length-take i rs) in
+      (j, k, same-is (getD rs i []) r q ∙ p ∙ getD-take i rs j [] k)
+
+  pub unlike-not : Unlike rs → (i : ℕ) → i < length rs → repeated rs i ≡ false
+  unlike-not u i l = elim (cases (repeated rs i)) [ inl e ↦ (let (j, k, q) = repeated-is i l e in absurd (omega (arith, u i j l (omega arith) q))) | inr e ↦ e ]
+
+  pub not-repeated : repeats rs ≡ false → (i : ℕ) → i < length rs → repeated rs i ≡ false
+  unfolding repeats
+  not-repeated h i l = none-of (repeated rs) h (upTo-of i (length rs) l)
+
+  -- two rows are equal exactly when they are not unlike
+  pub unlike-of : repeats rs ≡ false → Unlike rs
+  unlike-of h i j a b e = go (order i j)
+    where
+      go : (i ≡ j) ⊎ ((i < j) ⊎ (j < i)) → i ≡ j
+      go (inl q) = q
+      go (inr (inl l)) = absurd (false≢true (sym (not-repeated h j b) ∙ repeated-of j i l b (sym e)))
+      go (inr (inr l)) = absurd (false≢true (sym (not-repeated h i a) ∙ repeated-of i j l a e))
+
+  pub unlike-is : Unlike rs → repeats rs ≡ false
+  unfolding repeats
+  unlike-is u = any-none (repeated rs) (upTo (length rs)) (λ i k. unlike-not u i (upTo-is i (length rs) k))
+
+  -- two rows are equal exactly when the lowest that equals an earlier one lies within the rows
+  pub repeats-first : repeats rs ≡ ltb (firstRepeated rs) (length rs)
+  unfolding repeats firstRepeated
+  repeats-first = any-first (repeated rs) (upTo (length rs)) ∙ rw (length-upTo (length rs))
