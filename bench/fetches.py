@@ -1,6 +1,6 @@
 """Counts what a load fetches from a day file, for the square of 4,050 triangles and 4,096 tetrahedra: bench/fetches runs it.
 
-A load reads each cell twice, and each time D, 2 bits, and the vertices, 13 bits each; and the first 32 bits and those after the last vertex. A field needs the bytes from its first bit's to its last bit's. Fails where
+A load reads each cell once: D, 2 bits, and the vertices, 13 bits each; and the first 32 bits and those after the last vertex. A field needs the bytes from its first bit's to its last bit's. Fails where
 more bytes were fetched than these fields need.
 """
 
@@ -12,7 +12,7 @@ top = sys.argv[1]
 sys.path.insert(0, os.path.join(top, "compare"))
 import reference
 
-HEADS = 4  # how often the first 32 bits are read: for the faults, for the room, for the words, and for word 0
+HEADS = 4  # how often the first 32 bits are read: for the faults of the head, for those of the cells, for the room, and for the words
 
 
 def needed(bit, width):
@@ -39,8 +39,8 @@ def fetched(D, points, cells):
     os.remove(trace)
     end = 32 + 13 * (D + 1) * len(cells)
     vertices = sum(needed(bit, 13) for bit in range(32, end, 13))
-    most = 2 * (vertices + len(cells)) + 4 * HEADS + needed(end, 7)
-    by_bits = 2 * (13 * (D + 1) * len(cells) + 2 * len(cells)) + 32 * HEADS + 7
+    most = vertices + len(cells) + 4 * HEADS + needed(end, 7)
+    by_bits = 13 * (D + 1) * len(cells) + 2 * len(cells) + 32 * HEADS + 7
     print("%d cells, D = %d: %d bytes fetched, by %d loads; the fields need %d; a byte for each bit would be %d" % (len(cells), D, total, loads, most, by_bits))
     return total <= most
 

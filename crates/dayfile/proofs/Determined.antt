@@ -1,14 +1,18 @@
 -- Two outcomes that a contract of this crate allows are equal.
-use mathlib.Core.Path.{_≡_, sym, _∙_}
-use mathlib.Core.List.{List}
-use Prim.Native.Nat.{ℕ}
+use mathlib.Core.Path.{_≡_, sym, ap, ap₂, _∙_}
+use mathlib.Core.List.{List, _++_}
+use Prim.Native.Nat.{ℕ, _*_}
+use lib.ListN.{take, take-append-drop}
+use Rattle.rules.specs.Lists.{joined}
 use Rattle.rules.specs.File.{field, headLength, putFile}
 use Rattle.rules.specs.Calls.{fileNumber, faultCell}
 use Rattle.dayfile.specs.declared.kinds.Header.{Header}
 use Rattle.dayfile.specs.declared.kinds.Corners.{Corners}
 use Rattle.dayfile.specs.declared.kinds.Fault.{Fault}
-use Rattle.dayfile.specs.Faults.{faultOf}
+use Rattle.dayfile.specs.Faults.{faultOf, headNumber}
 use Rattle.dayfile.specs.Numbers.{numbers}
+use Rattle.dayfile.specs.Words.{Put}
+use Rattle.dayfile.proofs.FourWords.{rows-joined}
 use Rattle.dayfile.proofs.Numbers.{numbers-same}
 
 -- the first 32 bits
@@ -23,9 +27,19 @@ parts-equal part h r s e g = e ∙ sym g
 pub corners-equal : (ns : List ℕ) (p q : Corners) → numbers (p .vertices) ≡ ns → numbers (q .vertices) ≡ ns → p ≡ q
 corners-equal ns p q e g = λ i. record { vertices = numbers-same (p .vertices) (q .vertices) (e ∙ sym g) i }
 
+-- the first fault of the head and the length
+pub head-faults-equal : (f : List ℕ) (a b : Fault) → a ≡ faultOf (headNumber f) 0 → b ≡ faultOf (headNumber f) 0 → a ≡ b
+head-faults-equal f a b e g = e ∙ sym g
+
 -- the first fault
 pub faults-equal : (f : List ℕ) (a b : Fault) → a ≡ faultOf (fileNumber f) (faultCell f) → b ≡ faultOf (fileNumber f) (faultCell f) → a ≡ b
 faults-equal f a b e g = e ∙ sym g
+
+-- the words in which cells are put down
+pub puts-equal : (f was ws vs : List ℕ) (n : ℕ) → Put f was ws n → Put f was vs n → ws ≡ vs
+puts-equal f was ws vs n p q =
+    let e : take (4 * n) ws ≡ take (4 * n) vs = sym (rows-joined ws n) ∙ ap joined (p .rows ∙ sym (q .rows)) ∙ rows-joined vs n in
+    sym (take-append-drop (4 * n) ws) ∙ ap₂ (λ (xs ys : List ℕ). xs ++ ys) e (p .rest ∙ sym (q .rest)) ∙ take-append-drop (4 * n) vs
 
 -- the length that Write gives, and the bytes after it
 pub files-equal : (h : Header) (vs bs : List ℕ) (r s : ℕ) (cs ds : List ℕ) → (r ≡ headLength (h .0)) × (cs ≡ putFile (h .0) vs bs)

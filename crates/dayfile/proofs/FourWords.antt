@@ -2,24 +2,26 @@
 use mathlib.Core.Path.{_≡_, refl, sym, ap, _∙_}
 use mathlib.Core.Bool.{true, false}
 use mathlib.Core.List.{List, [], _∷_, _++_, map, map-map}
-use Prim.Native.Nat.{ℕ, _+_, _-_, _*_, _≤_, _<_}
+use Prim.Native.Nat.{ℕ, zero, suc, _+_, _-_, _*_, _≤_, _<_}
+use native.Mathlib.Numerals.{add-one}
 use native.Mathlib.Omega.{arith}
 use lib.Dec.{leb}
 use lib.ListN.{length, getD, take, drop, set, replicate, take-append-drop, length-set, length-take, length-drop}
-use lib.Seq.{getD-set-same, getD-set-other, take-set-le, getD-take, getD-drop, take-at, length-take-le}
-use Rattle.rules.specs.Lists.{upTo, firstAt, sorted, repeated, firstRepeated}
+use lib.Seq.{getD-set-same, getD-set-other, take-set-le, drop-set-lt, getD-take, getD-drop, take-at, take-add, length-take-le}
+use Rattle.rules.specs.Lists.{upTo, joined, firstAt, sorted, repeated, firstRepeated}
 use Rattle.rules.specs.File.{field, fileDim, fileVertices, fileCells, fileCell, cellsInFile, outOf, twice, headDim, headVertices, headCells}
 use Rattle.rules.proofs.Head.{head-dim, head-vertices, head-cells}
 use Rattle.rules.proofs.Tests.{agree}
 use Rattle.rules.proofs.Searched.{least-most, least-agree, first-mapped, Apart, apart-front, twice-front}
-use Rattle.rules.proofs.Sorted.{length-sorted, any-sorted, twice-sorted}
+use Rattle.rules.proofs.Sorted.{any-sorted, twice-sorted}
 use Rattle.rules.proofs.Unlike.{repeated-of, repeated-is}
-use Rattle.rules.proofs.Joined.{map-last}
+use Rattle.rules.proofs.Joined.{map-last, joined-more}
+use Rattle.rules.proofs.LoadedWords.{row-size}
+use Rattle.rules.proofs.Slices.{drop-later}
 use Rattle.rules.proofs.Numbered.{rows-agree, length-rows, getD-rows, four-members}
 use Rattle.repeats.specs.Rows.{rowAt, rowsIn}
 use Rattle.repeats.proofs.Parts.{front-part}
 use Rattle.dayfile.specs.Words.{fourWords, Put, cellsIn}
-use Rattle.dayfile.proofs.Four.{cell-length}
 
 -- the words of cell i: four, and one by one
 pub row-long : (ws : List ℕ) (i : ℕ) → 4 * i + 4 ≤ length ws → length (rowAt 4 ws i) ≡ 4
@@ -65,6 +67,11 @@ module _ (xs : List ℕ) (i a b c d : ℕ) where
       take-set-le (4 * i) three (4 * i + 3) d (omega arith) ∙ take-set-le (4 * i) two (4 * i + 2) c (omega arith)
       ∙ take-set-le (4 * i) one (4 * i + 1) b (omega arith) ∙ take-set-le (4 * i) xs (4 * i) a (omega arith)
 
+  pub stored-rest : drop (4 * (i + 1)) stored ≡ drop (4 * (i + 1)) xs
+  stored-rest =
+      drop-set-lt (4 * (i + 1)) three (4 * i + 3) d (omega arith) ∙ drop-set-lt (4 * (i + 1)) two (4 * i + 2) c (omega arith)
+      ∙ drop-set-lt (4 * (i + 1)) one (4 * i + 1) b (omega arith) ∙ drop-set-lt (4 * (i + 1)) xs (4 * i) a (omega arith)
+
   pub stored-row : 4 * i + 4 ≤ length xs → rowAt 4 stored i ≡ a ∷ b ∷ c ∷ d ∷ []
   stored-row l = row-is stored i (rw stored-long l) ∙ rw (zeroth, first, second, third)
     where
@@ -94,14 +101,28 @@ rows-front : (xs ys : List ℕ) (n : ℕ) → take (4 * n) ys ≡ take (4 * n) x
 unfolding rowsIn
 rows-front xs ys n e = rows-agree (rowAt 4 ys) (rowAt 4 xs) n (λ i l. row-front xs ys n i l e)
 
--- no cell is put down yet, and one cell more
-pub put-none : (f ws : List ℕ) → length ws ≡ 16384 → Put f ws 0
-put-none f ws l = record { long = l; rows = unfold rowsIn upTo in refl }
+-- the first n cells one behind the other are the words before cell n
+pub rows-joined : (ws : List ℕ) (n : ℕ) → joined (rowsIn 4 ws n) ≡ take (4 * n) ws
+unfolding rowsIn
+rows-joined ws zero = unfold joined upTo in refl
+rows-joined ws (suc n) =
+    let r : 4 * n + 4 ≡ 4 * suc n = omega arith in
+    let s : take (4 * n) ws ++ rowAt 4 ws n ≡ take (4 * n + 4) ws = unfold rowAt in sym (take-add (4 * n) 4 ws) in
+    rw (← add-one n, joined-more (rowAt 4 ws) n, rows-joined ws n, s, r, add-one n)
 
-pub put-more : (f xs ys : List ℕ) (n : ℕ) → Put f xs n → length ys ≡ 16384 → take (4 * n) ys ≡ take (4 * n) xs → rowAt 4 ys n ≡ fourWords f n → Put f ys (n + 1)
-put-more f xs ys n p l e g =
+-- no cell is put down yet, and one cell more
+pub put-none : (f ws : List ℕ) → length ws ≡ 16384 → Put f ws ws 0
+put-none f ws l = record { long = l; rows = unfold rowsIn upTo in refl; rest = refl }
+
+pub put-more : (f was xs ys : List ℕ) (n : ℕ) → Put f was xs n → length ys ≡ 16384 → take (4 * n) ys ≡ take (4 * n) xs → drop (4 * (n + 1)) ys ≡ drop (4 * (n + 1)) xs → rowAt 4 ys n ≡ fourWords f n
+    → Put f was ys (n + 1)
+put-more f was xs ys n p l e q g =
     let u : rowsIn 4 ys (n + 1) ≡ rowsIn 4 ys n ++ (rowAt 4 ys n ∷ []) = unfold rowsIn in map-last (rowAt 4 ys) n in
-    record { long = l; rows = u ∙ rw (rows-front xs ys n e, p .rows, g, map-last (fourWords f) n) }
+    record {
+      long = l;
+      rows = u ∙ rw (rows-front xs ys n e, p .rows, g, map-last (fourWords f) n);
+      rest = q ∙ drop-later xs was (4 * n) (4 * (n + 1)) (omega arith) (p .rest);
+    }
 
 -- ---- words behind each row, the same behind all, leave the lowest that equals an earlier one as it is
 module _ (f : ℕ → List ℕ) (z : List ℕ) (s n : ℕ) (long : (i : ℕ) → i < n → length (f i) ≡ s) where
@@ -135,21 +156,19 @@ module _ (f : ℕ → List ℕ) (z : List ℕ) (s n : ℕ) (long : (i : ℕ) →
   first-bare = rw (length-rows (λ i. f i ++ z) n, length-rows f n) (least-agree (repeated padded) (repeated bare) n repeated-bare)
 
 -- ---- the cells of a file, put down whole
-sorted-long : (f : List ℕ) (c : ℕ) → length (sorted (fileCell f c)) ≡ fileDim f + 1
-sorted-long f c = length-sorted (fileCell f c) ∙ cell-length f c
-
 front-sorted : (f : List ℕ) (c : ℕ) → take (fileDim f + 1) (fourWords f c) ≡ sorted (fileCell f c)
 unfolding fourWords
-front-sorted f c = take-at (sorted (fileCell f c)) (replicate (3 - fileDim f) 0) (fileDim f + 1) (sorted-long f c)
+front-sorted f c = take-at (sorted (fileCell f c)) (replicate (3 - fileDim f) 0) (fileDim f + 1) (row-size f c)
 
-module _ (f ws : List ℕ) (h : ℕ) (e : h ≡ field f 0 32) (p : Put f ws (headCells h)) where
+module _ (f was ws : List ℕ) (h : ℕ) (e : h ≡ field f 0 32) (p : Put f was ws (headCells h)) where
   count-is : headCells h ≡ fileCells f
   count-is = rw e (head-cells f)
 
   rows-are : rowsIn 4 ws (headCells h) ≡ map (fourWords f) (upTo (fileCells f))
   rows-are = p .rows ∙ rw count-is
 
-  cells-are : cellsIn h ws ≡ map sorted (cellsInFile f)
+  -- the cells are the file's, each ascending
+  pub cells-are : cellsIn h ws ≡ map sorted (cellsInFile f)
   unfolding cellsIn cellsInFile
   cells-are =
       let m : map (λ c. take (headDim h + 1) (rowAt 4 ws c)) (upTo (headCells h)) ≡ map (take (headDim h + 1)) (rowsIn 4 ws (headCells h))
@@ -167,7 +186,7 @@ module _ (f ws : List ℕ) (h : ℕ) (e : h ≡ field f 0 32) (p : Put f ws (hea
   pub again-put : firstRepeated (rowsIn 4 ws (headCells h)) ≡ firstRepeated (map sorted (cellsInFile f))
   unfolding fourWords cellsInFile
   again-put =
-      ap firstRepeated rows-are ∙ first-bare (λ c. sorted (fileCell f c)) (replicate (3 - fileDim f) 0) (fileDim f + 1) (fileCells f) (λ c l. sorted-long f c)
+      ap firstRepeated rows-are ∙ first-bare (λ c. sorted (fileCell f c)) (replicate (3 - fileDim f) 0) (fileDim f + 1) (fileCells f) (λ c l. row-size f c)
       ∙ ap firstRepeated (sym (map-map sorted (fileCell f) (upTo (fileCells f))))
 
 -- the lowest row is one of them, or their number

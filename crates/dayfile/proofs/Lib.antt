@@ -3,6 +3,7 @@ pub mod Bounds
 pub mod Filled
 pub mod Four
 pub mod FourWords
+pub mod HeadFaults
 pub mod Network
 pub mod Numbers
 pub mod Determined

@@ -1,7 +1,9 @@
 -- The faults of a file: the documents' number for each, and the cell that comes with 7, 8 and 23.
 use mathlib.Core.Bool.{cond}
+use mathlib.Core.List.{List}
 use Prim.Native.Nat.{ℕ, zero, suc}
-use lib.Dec.{eqb}
+use lib.Dec.{eqb, ltb}
+use Rattle.rules.specs.Calls.{fileNumber}
 use Rattle.dayfile.specs.declared.kinds.Fault.{Fault}
 use Rattle.dayfile.specs.declared.kinds.Fault.the-variants.{None, Short, NoDimension, ManyVertices, ManyCells, SpareBits, WrongLength, VertexOut, VertexTwice, CellTwice, BitsAfter}
 
@@ -49,3 +51,7 @@ firstFaults (suc (suc (suc (suc (suc (suc (suc (suc (suc n))))))))) c = BitsAfte
 -- the fault with that number and, for 7, 8 and 23, that cell
 unfoldable pub faultOf : ℕ → ℕ → Fault
 faultOf n c = cond (eqb n 23) (CellTwice (record { 0 = c })) (firstFaults n c)
+
+-- the number of the file's first fault where it lies in the head or the length, 1 to 6, else 0
+unfoldable pub headNumber : List ℕ → ℕ
+headNumber f = cond (ltb (fileNumber f) 7) (fileNumber f) 0

@@ -1,13 +1,13 @@
 // The first fault of a file, in the order of refusals 1 to 8, 23 and 9.
 ghost use mathlib.Core.Path.{_≡_};
-ghost use Prim.Native.Nat.{_*_, _≤_, _<_};
-ghost use lib.ListN.{length as count, take};
+ghost use Prim.Native.Nat.{_+_, _*_, _≤_, _<_};
+ghost use lib.ListN.{length as count, take, drop};
 ghost use lib.Dec.{leb};
 ghost use Rattle.rules.specs.Lists.{firstAt, firstRepeated};
-ghost use Rattle.rules.specs.File.{field, outOf, twice, padSet, headVertices, headCells, headLength};
+ghost use Rattle.rules.specs.File.{field, fileCells, outOf, twice, padSet, headVertices, headCells, headLength};
 ghost use Rattle.rules.specs.Calls.{fileNumber, faultCell};
 ghost use Rattle.repeats.specs.Rows.{rowAt, rowsIn};
-ghost use Rattle.dayfile.specs.Faults.{faultOf};
+ghost use Rattle.dayfile.specs.Faults.{faultOf, headNumber};
 ghost use Rattle.dayfile.specs.Numbers.{numbers};
 ghost use Rattle.dayfile.specs.Words.{Fits, Put, cellsIn};
 use crate::head::cells;
@@ -29,6 +29,7 @@ fn put_cell(words: &mut [u32; 16384], c: Cell, v: [Vertex; 4])
     requires { ⌜ (c .0 < 4096) × (count (now words) ≡ 16384) ⌝ }
     ensures { λ _. ⌜ rowAt 4 (now (words .exit)) (c .0) ≡ numbers v ⌝ }
     ensures { λ _. ⌜ take (4 * c .0) (now (words .exit)) ≡ take (4 * c .0) (now (words .entry)) ⌝ }
+    ensures { λ _. ⌜ drop (4 * (c .0 + 1)) (now (words .exit)) ≡ drop (4 * (c .0 + 1)) (now (words .entry)) ⌝ }
     ensures { λ _. ⌜ count (now (words .exit)) ≡ 16384 ⌝ }
 {
     let at = 4 * c.0 as usize;
@@ -41,7 +42,7 @@ fn put_cell(words: &mut [u32; 16384], c: Cell, v: [Vertex; 4])
 // Puts the file's cells down one after another, each cell's vertices ascending.
 fn put_cells(file: &[u8], head: Header, words: &mut [u32; 16384])
     requires { ⌜ Fits (head .0) (now words) ⌝ }
-    ensures { λ _. ⌜ Put (now (file .entry)) (now (words .exit)) (headCells (head .0)) ⌝ }
+    ensures { λ _. ⌜ Put (now (file .entry)) (now (words .entry)) (now (words .exit)) (headCells (head .0)) ⌝ }
 {
     let count = cells(head);
     let mut c: u32 = 0;
@@ -148,9 +149,9 @@ fn bits_after(file: &[u8], head: Header) -> bool
     bits::read_field(file, end_bit(head), 7) != 0
 }
 
-// The file's first fault.
-pub fn fault(file: &[u8]) -> Fault
-    ensures { λ r. ⌜ r ≡ faultOf (fileNumber (now (file .entry))) (faultCell (now (file .entry))) ⌝ }
+// The file's first fault where it lies in the head or the length, 1 to 6; else none.
+pub fn head_fault(file: &[u8]) -> Fault
+    ensures { λ r. ⌜ r ≡ faultOf (headNumber (now (file .entry))) 0 ⌝ }
 {
     if file.len() < 4 {
         return Fault::Short;
@@ -175,17 +176,27 @@ pub fn fault(file: &[u8]) -> Fault
     if file.len() != length(head) {
         return Fault::WrongLength;
     }
-    let mut words = [0u32; 16384];
-    put_cells(file, head, &mut words);
-    let out = first_out(&words, head);
+    Fault::None
+}
+
+// The first fault of a file whose head and length have none: 7, 8, 23 or 9. Its cells are put down in the words, and each is read once.
+pub fn body_fault(file: &[u8], words: &mut [u32; 16384]) -> Fault
+    requires { ⌜ (headNumber (now file) ≡ 0) × (count (now words) ≡ 16384) ⌝ }
+    ensures fault { λ r. ⌜ r ≡ faultOf (fileNumber (now (file .entry))) (faultCell (now (file .entry))) ⌝ }
+    ensures words { λ _. ⌜ Put (now (file .entry)) (now (words .entry)) (now (words .exit)) (fileCells (now (file .entry))) ⌝ }
+{
+    let head = header(file);
+    let cell_count = cells(head);
+    put_cells(file, head, words);
+    let out = first_out(words, head);
     if out.0 < cell_count {
         return Fault::VertexOut(out);
     }
-    let twice = first_twice(&words, head);
+    let twice = first_twice(words, head);
     if twice.0 < cell_count {
         return Fault::VertexTwice(twice);
     }
-    let again = first_again(&words, head);
+    let again = first_again(words, head);
     if again.0 < cell_count {
         return Fault::CellTwice(again);
     }

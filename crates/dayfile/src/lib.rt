@@ -5,7 +5,8 @@ mod kinds;
 mod reading;
 mod written;
 
-pub use faults::fault;
+pub use faults::body_fault;
+pub use faults::head_fault;
 pub use head::cells;
 pub use head::dimension;
 pub use head::header;

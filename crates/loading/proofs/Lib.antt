@@ -1,4 +1,4 @@
-pub mod Sizes
-pub mod Whole
+pub mod Copied
 pub mod Loading
+pub mod Whole
 pub mod Alike

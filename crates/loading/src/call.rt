@@ -52,15 +52,19 @@ pub fn load(file: &[u8], book: &mut [u32]) -> Loaded
     ensures cell { λ r. ⌜ loadedCell r ≡ loadCell (now (file .entry)) (now (book .entry)) ⌝ }
     ensures words { λ r. ⌜ now (book .exit) ≡ loadWords (now (file .entry)) (now (book .entry)) ⌝ }
 {
-    let fault = dayfile::fault(file);
+    let early = dayfile::head_fault(file);
+    if number_of(early) != 0 {
+        return refused(early);
+    }
+    let mut words = [0u32; 16384];
+    let fault = dayfile::body_fault(file, &mut words);
     if number_of(fault) != 0 {
         return refused(fault);
     }
-    let head = dayfile::header(file);
-    let end = end_of(head);
+    let end = end_of(dayfile::header(file));
     if book.len() < end.0 {
         return Loaded::NoRoom;
     }
-    fill(file, book);
+    fill(file, &words, book);
     Loaded::Accepted
 }

@@ -5,12 +5,17 @@ mod call;
 pub use answers::Loaded;
 pub use call::load;
 ghost use mathlib.Core.Path.{_≡_};
-ghost use Prim.Native.Nat.{_+_, _*_, _≤_, _<_};
-ghost use lib.ListN.{length};
-ghost use Rattle.rules.specs.Lists.{filled, spliced};
-ghost use Rattle.rules.specs.File.{field, fileCells, headDim, headCells};
+ghost use mathlib.Core.List.{[], _∷_};
+ghost use Prim.Native.Nat.{_+_, _*_, _^_, _≤_, _<_};
+ghost use lib.ListN.{length, take};
+ghost use Rattle.rules.specs.Lists.{filled, joined};
+ghost use Rattle.rules.specs.File.{headDim, headCells};
+ghost use Rattle.rules.specs.Book.{key};
 ghost use Rattle.rules.specs.Calls.{loaded};
-ghost use Rattle.loading.specs.Sizes.{Sized, vertexAt};
+ghost use Rattle.repeats.specs.Rows.{rowAt};
+ghost use Rattle.dayfile.specs.Words.{Fits, cellsIn};
+ghost use Rattle.relations.specs.Words.{Written};
+ghost use Rattle.loading.specs.Filling.{Filling};
 use book::Place;
 use dayfile::Cell;
 use dayfile::Header;
@@ -25,59 +30,58 @@ pub fn end_of(head: Header) -> Place
 }
 
 // Writes the head: word 0, D→0 alone held, no N_1 and no N_2, and the used length.
-fn write_head(file: &[u8], book: &mut [u32], dim: u32, used: Place)
-    requires { ⌜ Sized (now file) dim (used .0) (length (now book)) ⌝ }
-    ensures { λ r. ⌜ now (book .exit) ≡ spliced 0 5 (filled (length (now (book .entry))) (loaded (now (file .entry)))) (now (book .entry)) ⌝ }
+fn write_head(book: &mut [u32], head: Header, used: Place)
+    requires { ⌜ (5 ≤ length (now book)) × ((used .0 < 2 ^ 32) × (headDim (head .0) < 4)) ⌝ }
+    ensures { λ _. ⌜ Written (now (book .entry)) 0 (head .0 ∷ (2 ^ key (headDim (head .0)) 0) ∷ 0 ∷ 0 ∷ used .0 ∷ []) 5 (now (book .exit)) ⌝ }
 {
-    book[0] = dayfile::header(file).0;
-    book[1] = 1 << (4 * dim);
+    book[0] = head.0;
+    book[1] = 1 << (4 * dayfile::dimension(head));
     book[2] = 0;
     book[3] = 0;
     book[4] = used.0 as u32;
 }
 
-// Writes a cell, its vertices ascending, from a place on.
-fn write_cell(file: &[u8], book: &mut [u32], dim: u32, c: Cell, at: Place, used: Place)
-    requires { ⌜ Sized (now file) dim (used .0) (length (now book)) × ((c .0 < fileCells (now file)) × (at .0 ≡ vertexAt (now file) (c .0) 0)) ⌝ }
-    ensures { λ r. ⌜ now (book .exit) ≡ spliced (at .0) (at .0 + (dim + 1)) (filled (length (now (book .entry))) (loaded (now (file .entry)))) (now (book .entry)) ⌝ }
+// Writes the `n` vertices of a cell that is put down, from a place on.
+fn write_cell(book: &mut [u32], words: &[u32; 16384], c: Cell, n: usize, at: Place)
+    requires { ⌜ (c .0 < 4096) × ((n ≤ 4) × ((length (now words) ≡ 16384) × (at .0 + n ≤ length (now book)))) ⌝ }
+    ensures { λ _. ⌜ Written (now (book .entry)) (at .0) (take n (rowAt 4 (now (words .entry)) (c .0))) (at .0 + n) (now (book .exit)) ⌝ }
 {
-    let corners = dayfile::cell(file, c);
-    let vertices = corners.vertices;
+    let first = 4 * c.0 as usize;
     let start = at.0;
-    let n = dim as usize + 1;
     let mut k: usize = 0;
     while k < n {
-        book[start + k] = vertices[k].0;
+        book[start + k] = words[first + k];
         k += 1;
     }
 }
 
-// Writes the cells one after another.
-fn write_cells(file: &[u8], book: &mut [u32], dim: u32, cells: u32, used: Place)
-    requires { ⌜ Sized (now file) dim (used .0) (length (now book)) × (cells ≡ fileCells (now file)) ⌝ }
-    ensures { λ r. ⌜ now (book .exit) ≡ spliced (6 + cells) (used .0) (filled (length (now (book .entry))) (loaded (now (file .entry)))) (now (book .entry)) ⌝ }
+// Writes the cells that are put down one after another, from a place on.
+fn write_cells(book: &mut [u32], words: &[u32; 16384], head: Header, at: Place)
+    requires { ⌜ Fits (head .0) (now words) × (at .0 + headCells (head .0) * (headDim (head .0) + 1) ≤ length (now book)) ⌝ }
+    ensures { λ _. ⌜ Written (now (book .entry)) (at .0) (joined (cellsIn (head .0) (now (words .entry)))) (at .0 + headCells (head .0) * (headDim (head .0) + 1)) (now (book .exit)) ⌝ }
 {
-    let size = dim as usize + 1;
-    let mut at = 6 + cells as usize;
+    let count = dayfile::cells(head);
+    let n = dayfile::dimension(head) as usize + 1;
+    let mut to = at.0;
     let mut c: u32 = 0;
-    while c < cells {
-        write_cell(file, book, dim, Cell(c), Place(at), used);
-        at += size;
+    while c < count {
+        write_cell(book, words, Cell(c), n, Place(to));
+        to += n;
         c += 1;
     }
 }
 
-// Sets every word of a book that has room for the file's mesh.
-pub fn fill(file: &[u8], book: &mut [u32])
-    requires { ⌜ length (loaded (now file)) ≤ length (now book) ⌝ }
-    ensures { λ r. ⌜ now (book .exit) ≡ filled (length (now (book .entry))) (loaded (now (file .entry))) ⌝ }
+// Sets every word of a book that has room for the file's mesh, whose cells are put down.
+pub fn fill(file: &[u8], words: &[u32; 16384], book: &mut [u32])
+    requires { ⌜ Filling (now file) (now words) (now book) ⌝ }
+    ensures { λ _. ⌜ now (book .exit) ≡ filled (length (now (book .entry))) (loaded (now (file .entry))) ⌝ }
 {
     let head = dayfile::header(file);
-    let dim = dayfile::dimension(head);
     let cells = dayfile::cells(head);
     let used = end_of(head);
-    write_head(file, book, dim, used);
-    relations::words::write_offsets(book, Place(5), cells, dim + 1);
-    write_cells(file, book, dim, cells, used);
+    write_head(book, head, used);
+    relations::words::write_offsets(book, Place(5), cells, dayfile::dimension(head) + 1);
+    let first = 6 + cells as usize;
+    write_cells(book, words, head, Place(first));
     settle::clear(book, used);
 }

@@ -5,5 +5,6 @@ pub mod Appended
 pub mod Filled
 pub mod RowByRow
 pub mod Stepping
+pub mod Listing
 pub mod Linked
 pub mod Right

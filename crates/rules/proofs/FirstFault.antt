@@ -53,40 +53,50 @@ module _ (f : List ℕ) where
             wrong-length h =
                 rw (le-ltb (length f) 4 a, ne-eqb (fileDim f) 0 b, le-ltb 8192 (fileVertices f) c, le-ltb 4096 (fileCells f) d, le-ltb 0 (fileSpare f) e, ne-eqb (length f) (lengthOf (fileDim f) (fileCells f)) h)
 
-            module _ (g : length f ≡ lengthOf (fileDim f) (fileCells f)) where
-              found : (p : List ℕ → Bool) → firstAt p (cellsInFile f) < fileCells f → anyOf p (cellsInFile f) ≡ true
-              found p h = any-first p (cellsInFile f) ∙ rw (all-cells f) (lt-ltb _ _ h)
+-- the tests 1 to 6 are passed
+pub record Passed (f : List ℕ) : Type 0 where
+  pub long : 4 ≤ length f
+  pub some-dimension : fileDim f ≡ 0 → ⊥
+  pub few-vertices : fileVertices f ≤ 8192
+  pub few-cells : fileCells f ≤ 4096
+  pub no-spare : fileSpare f ≤ 0
+  pub right-length : length f ≡ lengthOf (fileDim f) (fileCells f)
 
-              none : (p : List ℕ → Bool) → fileCells f ≤ firstAt p (cellsInFile f) → anyOf p (cellsInFile f) ≡ false
-              none p h = any-first p (cellsInFile f) ∙ rw (all-cells f) (le-ltb _ _ h)
+-- behind them, the tests of the cells and of the bits after the last vertex
+module _ (f : List ℕ) (p : Passed f) where
+  found : (t : List ℕ → Bool) → firstAt t (cellsInFile f) < fileCells f → anyOf t (cellsInFile f) ≡ true
+  found t h = any-first t (cellsInFile f) ∙ rw (all-cells f) (lt-ltb _ _ h)
 
-              pub vertex-out : firstAt (outOf (fileVertices f)) (cellsInFile f) < fileCells f → fileNumber f ≡ 7
-              unfolding fileNumber fileRules firstBroken
-              vertex-out h =
-                  rw (le-ltb (length f) 4 a, ne-eqb (fileDim f) 0 b, le-ltb 8192 (fileVertices f) c, le-ltb 4096 (fileCells f) d, le-ltb 0 (fileSpare f) e, eq-eqb (length f) (lengthOf (fileDim f) (fileCells f)) g, found (outOf (fileVertices f)) h)
+  none : (t : List ℕ → Bool) → fileCells f ≤ firstAt t (cellsInFile f) → anyOf t (cellsInFile f) ≡ false
+  none t h = any-first t (cellsInFile f) ∙ rw (all-cells f) (le-ltb _ _ h)
 
-              module _ (i : fileCells f ≤ firstAt (outOf (fileVertices f)) (cellsInFile f)) where
-                pub vertex-twice : firstAt twice (cellsInFile f) < fileCells f → fileNumber f ≡ 8
-                unfolding fileNumber fileRules firstBroken
-                vertex-twice h =
-                    rw (le-ltb (length f) 4 a, ne-eqb (fileDim f) 0 b, le-ltb 8192 (fileVertices f) c, le-ltb 4096 (fileCells f) d, le-ltb 0 (fileSpare f) e, eq-eqb (length f) (lengthOf (fileDim f) (fileCells f)) g, none (outOf (fileVertices f)) i, found twice h)
+  pub vertex-out : firstAt (outOf (fileVertices f)) (cellsInFile f) < fileCells f → fileNumber f ≡ 7
+  unfolding fileNumber fileRules firstBroken
+  vertex-out h =
+      rw (le-ltb (length f) 4 (p .long), ne-eqb (fileDim f) 0 (p .some-dimension), le-ltb 8192 (fileVertices f) (p .few-vertices), le-ltb 4096 (fileCells f) (p .few-cells), le-ltb 0 (fileSpare f) (p .no-spare), eq-eqb (length f) (lengthOf (fileDim f) (fileCells f)) (p .right-length), found (outOf (fileVertices f)) h)
 
-                module _ (j : fileCells f ≤ firstAt twice (cellsInFile f)) where
-                  pub cell-repeated : firstRepeated (map sorted (cellsInFile f)) < fileCells f → fileNumber f ≡ 23
-                  unfolding fileNumber fileRules firstBroken
-                  cell-repeated h =
-                      rw (le-ltb (length f) 4 a, ne-eqb (fileDim f) 0 b, le-ltb 8192 (fileVertices f) c, le-ltb 4096 (fileCells f) d, le-ltb 0 (fileSpare f) e, eq-eqb (length f) (lengthOf (fileDim f) (fileCells f)) g, none (outOf (fileVertices f)) i, none twice j, repeats-file, lt-ltb _ _ h)
+  module _ (i : fileCells f ≤ firstAt (outOf (fileVertices f)) (cellsInFile f)) where
+    pub vertex-twice : firstAt twice (cellsInFile f) < fileCells f → fileNumber f ≡ 8
+    unfolding fileNumber fileRules firstBroken
+    vertex-twice h =
+        rw (le-ltb (length f) 4 (p .long), ne-eqb (fileDim f) 0 (p .some-dimension), le-ltb 8192 (fileVertices f) (p .few-vertices), le-ltb 4096 (fileCells f) (p .few-cells), le-ltb 0 (fileSpare f) (p .no-spare), eq-eqb (length f) (lengthOf (fileDim f) (fileCells f)) (p .right-length), none (outOf (fileVertices f)) i, found twice h)
 
-                  module _ (k : fileCells f ≤ firstRepeated (map sorted (cellsInFile f))) where
-                    pub bits-after : padSet f ≡ true → fileNumber f ≡ 9
-                    unfolding fileNumber fileRules firstBroken
-                    bits-after h =
-                        rw (le-ltb (length f) 4 a, ne-eqb (fileDim f) 0 b, le-ltb 8192 (fileVertices f) c, le-ltb 4096 (fileCells f) d, le-ltb 0 (fileSpare f) e, eq-eqb (length f) (lengthOf (fileDim f) (fileCells f)) g, none (outOf (fileVertices f)) i, none twice j, repeats-file, le-ltb (firstRepeated (map sorted (cellsInFile f))) (fileCells f) k, h)
+    module _ (j : fileCells f ≤ firstAt twice (cellsInFile f)) where
+      pub cell-repeated : firstRepeated (map sorted (cellsInFile f)) < fileCells f → fileNumber f ≡ 23
+      unfolding fileNumber fileRules firstBroken
+      cell-repeated h =
+          rw (le-ltb (length f) 4 (p .long), ne-eqb (fileDim f) 0 (p .some-dimension), le-ltb 8192 (fileVertices f) (p .few-vertices), le-ltb 4096 (fileCells f) (p .few-cells), le-ltb 0 (fileSpare f) (p .no-spare), eq-eqb (length f) (lengthOf (fileDim f) (fileCells f)) (p .right-length), none (outOf (fileVertices f)) i, none twice j, repeats-file, lt-ltb _ _ h)
 
-                    pub no-fault : padSet f ≡ false → fileNumber f ≡ 0
-                    unfolding fileNumber fileRules firstBroken
-                    no-fault h =
-                        rw (le-ltb (length f) 4 a, ne-eqb (fileDim f) 0 b, le-ltb 8192 (fileVertices f) c, le-ltb 4096 (fileCells f) d, le-ltb 0 (fileSpare f) e, eq-eqb (length f) (lengthOf (fileDim f) (fileCells f)) g, none (outOf (fileVertices f)) i, none twice j, repeats-file, le-ltb (firstRepeated (map sorted (cellsInFile f))) (fileCells f) k, h)
+      module _ (k : fileCells f ≤ firstRepeated (map sorted (cellsInFile f))) where
+        pub bits-after : padSet f ≡ true → fileNumber f ≡ 9
+        unfolding fileNumber fileRules firstBroken
+        bits-after h =
+            rw (le-ltb (length f) 4 (p .long), ne-eqb (fileDim f) 0 (p .some-dimension), le-ltb 8192 (fileVertices f) (p .few-vertices), le-ltb 4096 (fileCells f) (p .few-cells), le-ltb 0 (fileSpare f) (p .no-spare), eq-eqb (length f) (lengthOf (fileDim f) (fileCells f)) (p .right-length), none (outOf (fileVertices f)) i, none twice j, repeats-file, le-ltb (firstRepeated (map sorted (cellsInFile f))) (fileCells f) k, h)
+
+        pub no-fault : padSet f ≡ false → fileNumber f ≡ 0
+        unfolding fileNumber fileRules firstBroken
+        no-fault h =
+            rw (le-ltb (length f) 4 (p .long), ne-eqb (fileDim f) 0 (p .some-dimension), le-ltb 8192 (fileVertices f) (p .few-vertices), le-ltb 4096 (fileCells f) (p .few-cells), le-ltb 0 (fileSpare f) (p .no-spare), eq-eqb (length f) (lengthOf (fileDim f) (fileCells f)) (p .right-length), none (outOf (fileVertices f)) i, none twice j, repeats-file, le-ltb (firstRepeated (map sorted (cellsInFile f))) (fileCells f) k, h)
 
 -- the cell that comes with 7, 8 and 23
 pub cell-out : (f : List ℕ) → fileNumber f ≡ 7 → faultCell f ≡ firstAt (outOf (fileVertices f)) (cellsInFile f)

@@ -1,63 +1,52 @@
--- The vertices written so far stand where the loaded words have them.
-use mathlib.Core.Path.{_≡_, refl, sym, ap, _∙_}
-use mathlib.Core.List.{List}
-use Prim.Native.Nat.{ℕ, _+_, _-_, _≤_, _<_}
-use native.Mathlib.Nat.{add-assoc, add-zero}
+-- The invariant: the words passed are written.
+use mathlib.Core.Path.{_≡_, refl, _∙_}
+use Prim.Native.Nat.{_+_, _-_, _≤_, _<_}
 use native.Mathlib.Omega.{arith}
-use lib.ListN.{length, getD, replicate, length-set, List·getD-append}
-use Rattle.rules.specs.Lists.{filled, sorted}
-use Rattle.rules.specs.File.{fileDim, fileCell}
-use Rattle.rules.specs.Calls.{loaded}
-use Rattle.rules.proofs.Fields.{dim-below}
-use Rattle.rules.proofs.Spliced.{Splicing, splicing-none, splicing-length, splicing-more}
-use Rattle.rules.proofs.LoadedWords.{row-size}
-use Rattle.dayfile.proofs.Numbers.{number-at}
-use Rattle.loading.specs.Sizes.{Sized, vertexAt}
-use Rattle.loading.proofs.Sizes.{wanted-length, cell-inside, cell-word}
+use lib.ListN.{length, take, drop, length-set}
+use Rattle.relations.specs.Words.{Written}
+use Rattle.relations.proofs.Appended.{written-none}
+use Rattle.loading.proofs.Copied.{copied-more, copied-row}
 use Rattle.loading.proofs.write_cell.Statement.{statement}
 use Rattle.loading.proofs.write_cell.Tie as tie
-use Rattle.loading.proofs.write_cell.Reads as reads
-use Rattle.loading.proofs.write_cell.Lts as lts
-use Rattle.dayfile.proofs.cell.Reads as cell-reads
 
 abbrev Inv-loop : tie.InvT-loop
-Inv-loop file book₀ dim vertices start n k₀ book k =
-    Splicing (filled (length book₀) (loaded file)) book₀ start (start + k) book × (k ≤ n)
+Inv-loop book₀ words n first start k₀ book k = Written book₀ start (take k (drop first words)) (start + k) book × ((k ≤ n) × ((length book ≡ length book₀) × (first + n ≤ length words)))
 
 abbrev μ-loop : tie.MeasureT-loop
-μ-loop file book₀ dim vertices start n k₀ book k = n - k
+μ-loop book₀ words n first start k₀ book k = n - k
 
-cell-requires : tie.Need-cell-requires Inv-loop μ-loop
-cell-requires c κs = tt
+cast-first : tie.Need-cast-first Inv-loop μ-loop
+cast-first c = omega (arith, c .before .pre .0)
 
-add-n : tie.Need-add-n Inv-loop μ-loop
-add-n c = omega (arith, dim-below (c .before .before .before .before .args .file .now), c .before .before .before .before .pre .0 .dims)
+mul-first : tie.Need-mul-first Inv-loop μ-loop
+mul-first c = omega (arith, c .before .pre .0)
 
 loop-holds : tie.Need-loop-holds Inv-loop μ-loop
-loop-holds c = let s = c .before .before .before .before in
-    let n = cell-inside _ _ _ _ (s .pre .0) (s .args .c .0) (s .args .at .0) (s .pre .1 .0) (s .pre .1 .1) 0 (omega arith) in
-    (rw (add-zero (s .args .at .0)) (splicing-none _ _ (s .args .at .0) (omega (arith, s .pre .0 .room)) (wanted-length _ _ _ _ (s .pre .0))), omega arith)
-
--- the place of the vertex that a turn writes lies in the book, and the loaded words have that vertex there
-inside : (c : tie.In-loop Inv-loop μ-loop) → c .before .before .before .before .before .before .args .at .0 + c .before .loop .k < c .before .before .before .before .before .before .args .used .0
-inside c =
-    let s = c .before .before .before .before .before .before in
-    cell-inside _ _ _ _ (s .pre .0) (s .args .c .0) (s .args .at .0) (s .pre .1 .0) (s .pre .1 .1) (c .before .loop .k) (c .loop-test .taken)
-
-mul-book : tie.Need-mul-book Inv-loop μ-loop
-mul-book c = omega arith
-
-element-copy-out-book : tie.Need-element-copy-out-book Inv-loop μ-loop
-element-copy-out-book c = omega (arith, dim-below (c .before .before .before .before .before .before .args .file .now), c .before .before .before .before .before .before .pre .0 .dims)
+loop-holds c =
+    let s = c .before in
+    (written-none _ (s .args .at .0) (s .args .at .0 + 0) (omega arith), (omega arith, (refl, omega (arith, s .pre .0, s .pre .1 .0, s .pre .1 .1 .0))))
 
 add-book : tie.Need-add-book Inv-loop μ-loop
-add-book c = omega (arith, inside c, c .before .before .before .before .before .before .pre .0 .room, c .before .before .before .before .before .before .good)
+add-book c = omega (arith, c .before .before .before .pre .0, c .before .before .before .pre .1 .0, c .loop-test .taken)
+
+mul-book : tie.Need-mul-book Inv-loop μ-loop
+mul-book c = omega (arith, c .before .before .before .pre .0, c .before .before .before .pre .1 .0, c .loop-test .taken)
+
+element-copy-out-book : tie.Need-element-copy-out-book Inv-loop μ-loop
+element-copy-out-book c = omega (arith, c .before .before .before .pre .0, c .before .before .before .pre .1 .0, c .loop-test .taken)
+
+-- the place that a turn writes lies in the book
+inside : (c : tie.In-loop Inv-loop μ-loop) → c .before .before .before .args .at .0 + c .before .loop .k < length (c .before .before .before .args .book .now)
+inside c = omega (arith, c .before .before .before .pre .1 .1 .1, c .loop-test .taken)
+
+add-book-2 : tie.Need-add-book-2 Inv-loop μ-loop
+add-book-2 c = omega (arith, inside (c .before), c .before .before .before .before .good)
 
 mul-book-2 : tie.Need-mul-book-2 Inv-loop μ-loop
-mul-book-2 c = omega (arith, inside c, c .before .before .before .before .before .before .pre .0 .room, c .before .before .before .before .before .before .good)
+mul-book-2 c = omega (arith, inside (c .before), c .before .before .before .before .good)
 
 slice-write-book : tie.Need-slice-write-book Inv-loop μ-loop
-slice-write-book c = omega (arith, inside c, c .before .before .before .before .before .before .pre .0 .room, splicing-length _ _ _ _ _ (c .before .loop .inv .0))
+slice-write-book c = omega (arith, inside (c .before), c .before .before .loop .inv .1 .1 .0)
 
 add-k : tie.Need-add-k Inv-loop μ-loop
 add-k c = omega arith
@@ -66,24 +55,20 @@ loop-less : tie.Need-loop-less Inv-loop μ-loop
 loop-less c = omega arith
 
 loop-again : tie.Need-loop-again Inv-loop μ-loop
-loop-again c = let s = c .before .before .before .before .before .before in
-    let l = c .before .loop in
-    let k : l .k < s .args .dim + 1 = c .loop-test .taken in
-    let v : getD (c .before .before .before .cell .result .vertices) (l .k) (record { 0 = 0 }) .0 ≡ getD (filled (length (s .args .book .now)) (loaded (s .args .file .now))) (s .args .at .0 + l .k) 0
-    = sym (number-at (c .before .before .before .cell .result .vertices) (l .k))
-    ∙ ap (λ (x : List ℕ). getD x (l .k) 0) (c .before .before .before .cell .ensures)
-    ∙ List·getD-append (sorted (fileCell (s .args .file .now) (s .args .c .0))) _ 0 (l .k) (rw (row-size (s .args .file .now) (s .args .c .0)) (omega (arith, s .pre .0 .dims)))
-    ∙ cell-word _ _ _ _ (s .pre .0) (s .args .c .0) (s .args .at .0) (s .pre .1 .0) (s .pre .1 .1) (l .k) k in
-    (rw (← add-assoc (s .args .at .0) (l .k) 1) (splicing-more _ _ _ _ _ (l .inv .0) _ (omega (arith, inside c, s .pre .0 .room)) v), omega arith)
+loop-again c =
+    let l = c .before .before .loop in
+    let t = c .before .loop-test .taken in
+    (copied-more _ _ _ _ _ _ _ (l .inv .1 .1 .1) t (l .inv .0), (omega (arith, t), (length-set (l .book) _ _ ∙ l .inv .1 .1 .0, l .inv .1 .1 .1)))
 
 same-length : tie.Need-same-length Inv-loop μ-loop
-same-length c = splicing-length _ _ _ _ _ (c .before .loop .inv .0)
+same-length c = c .before .loop .inv .1 .1 .0
 
 returns : tie.Need-returns Inv-loop μ-loop
-returns c = let l = c .before .loop in
-    let s = c .before .before .before .before .before .before in
-    let e : l .k ≡ s .args .dim + 1 = omega (arith, l .inv .1, c .loop-test .left) in
-    rw e at (l .inv .0 .words)
+returns c =
+    let s = c .before .before .before in
+    let l = c .before .loop in
+    let e : l .k ≡ s .args .n = omega (arith, l .inv .1 .0, c .loop-test .left) in
+    rw (e, copied-row (s .args .words .now) (s .args .c .0) (s .args .n) (s .pre .1 .0)) at (l .inv .0)
 
 pub write-cell-spec : {M : Type 1} → statement M
 write-cell-spec =
@@ -91,12 +76,13 @@ write-cell-spec =
     (tie.spec
     Inv-loop
     μ-loop
-    cell-requires
-    add-n
+    cast-first
+    mul-first
     loop-holds
+    add-book
     mul-book
     element-copy-out-book
-    add-book
+    add-book-2
     mul-book-2
     slice-write-book
     add-k

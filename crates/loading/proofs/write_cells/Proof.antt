@@ -1,62 +1,70 @@
--- The cells written so far stand where the loaded words have them.
-use mathlib.Core.Path.{_≡_, refl, sym, ap, _∙_}
-use mathlib.Core.List.{List}
-use Prim.Native.Nat.{ℕ, suc, _+_, _-_, _*_, _≤_, _<_}
+-- The invariant: the cells passed are written, one behind the other.
+use mathlib.Core.Path.{_≡_, _∙_}
+use Prim.Native.Nat.{suc, _+_, _-_, _*_, _≤_}
 use native.Mathlib.Nat.{mul-zero, mul-suc, mul-comm, mul-le-mul-left}
 use native.Mathlib.Numerals.{add-one}
 use native.Mathlib.Omega.{arith}
-use lib.ListN.{length}
-use Rattle.rules.specs.Lists.{filled}
-use Rattle.rules.specs.File.{fileDim, fileCells}
-use Rattle.rules.specs.Calls.{loaded}
-use Rattle.rules.proofs.Fields.{dim-below}
-use Rattle.rules.proofs.Spliced.{Splicing, splicing-none, splicing-length, splicing-on}
-use Rattle.loading.specs.Sizes.{Sized, vertexAt}
-use Rattle.loading.proofs.Sizes.{cells-below, wanted-length, used-is}
+use lib.ListN.{length, take}
+use Rattle.rules.specs.File.{headDim, headCells}
+use Rattle.repeats.specs.Rows.{rowAt}
+use Rattle.dayfile.specs.Words.{cellsIn}
+use Rattle.relations.proofs.Listing.{Listing, listing-none, listing-more, listing-all}
 use Rattle.loading.proofs.write_cells.Statement.{statement}
 use Rattle.loading.proofs.write_cells.Tie as tie
-use Rattle.loading.proofs.write_cells.Reads as reads
-use Rattle.loading.proofs.write_cells.Lts as lts
-use Rattle.loading.proofs.write_cell.Reads as write-cell-reads
 
 abbrev Inv-loop : tie.InvT-loop
-Inv-loop file book₀ dim cells used size at₀ c₀ book at c =
-    Splicing (filled (length book₀) (loaded file)) book₀ (6 + cells) at book × ((c ≤ cells) × (at ≡ 6 + cells + size * c))
+Inv-loop book₀ words count n to₀ c₀ book to c = Listing book₀ to₀ count n (λ i. take n (rowAt 4 words i)) book to c × (to ≡ to₀ + n * c)
 
 abbrev μ-loop : tie.MeasureT-loop
-μ-loop file book₀ dim cells used size at₀ c₀ book at c = cells - c
+μ-loop book₀ words count n to₀ c₀ book to c = count - c
 
-add-size : tie.Need-add-size Inv-loop μ-loop
-add-size c = omega arith
+cells-requires : tie.Need-cells-requires Inv-loop μ-loop
+cells-requires c κs = tt
 
-add-at : tie.Need-add-at Inv-loop μ-loop
-add-at c = omega arith
+dimension-requires : tie.Need-dimension-requires Inv-loop μ-loop
+dimension-requires c κs = tt
+
+cast-n : tie.Need-cast-n Inv-loop μ-loop
+cast-n c = omega arith
+
+add-n : tie.Need-add-n Inv-loop μ-loop
+add-n c = omega arith
 
 loop-holds : tie.Need-loop-holds Inv-loop μ-loop
-loop-holds c = let s = c .before .before in
-    (splicing-none _ _ (6 + s .args .cells) (omega (arith, used-is _ _ _ _ (s .pre .0), s .pre .0 .room, s .pre .1)) (wanted-length _ _ _ _ (s .pre .0)), (omega arith, rw (mul-zero (s .args .dim + 1)) (omega arith)))
+loop-holds c = (listing-none _ _ _ _ _, rw (mul-zero (c .dimension .result + 1)) (omega arith))
 
--- the book in a turn is as long as at first, and has room for the cell
-sized : (c : tie.In-loop Inv-loop μ-loop) → Sized (c .before .before .before .before .args .file .now) (c .before .before .before .before .args .dim) (c .before .before .before .before .args .used .0) (length (c .before .loop .book))
-sized c = rw (splicing-length _ _ _ _ _ (c .before .loop .inv .0)) (c .before .before .before .before .pre .0)
+-- a cell has at most four vertices
+four : (c : tie.After-dimension Inv-loop μ-loop) → c .dimension .result + 1 ≤ 4
+unfolding headDim
+four c = omega arith
 
-room : (c : tie.In-loop Inv-loop μ-loop) → c .before .loop .at + (c .before .before .before .before .args .dim + 1) ≤ c .before .before .before .before .args .used .0
+-- all vertices, by what was read of the head
+all : (c : tie.After-dimension Inv-loop μ-loop)
+    → headCells (c .before .before .before .args .head .0) * (headDim (c .before .before .before .args .head .0) + 1) ≡ (c .dimension .result + 1) * c .before .cells .result
+all c =
+    let h = c .before .before .before .args .head .0 in
+    rw (c .dimension .ensures, c .before .cells .ensures) (mul-comm (headCells h) (headDim h + 1))
+
+-- the book has room for the cell of a turn
+room : (c : tie.In-loop Inv-loop μ-loop) → c .before .loop .to + (c .before .before .dimension .result + 1) ≤ length (c .before .before .before .before .before .args .book .now)
 room c =
-    let s = c .before .before .before .before in
+    let d = c .before .before in
+    let s = d .before .before .before in
     let l = c .before .loop in
-    let m : (s .args .dim + 1) * suc (l .c) ≤ (s .args .dim + 1) * s .args .cells = mul-le-mul-left (s .args .dim + 1) (c .loop-test .taken) in
-    let u = used-is _ _ _ _ (s .pre .0) in
-    let e : fileCells (s .args .file .now) * (fileDim (s .args .file .now) + 1) ≡ (s .args .dim + 1) * s .args .cells = rw (s .pre .0 .dims, s .pre .1) (mul-comm (fileCells (s .args .file .now)) (fileDim (s .args .file .now) + 1)) in
-    omega (arith, l .inv .1 .1, s .pre .1)
+    let m : (d .dimension .result + 1) * suc (l .c) ≤ (d .dimension .result + 1) * d .before .cells .result = mul-le-mul-left (d .dimension .result + 1) (c .loop-test .taken) in
+    omega (arith, l .inv .1, s .pre .1, all d)
 
 write-cell-requires : tie.Need-write-cell-requires Inv-loop μ-loop
-write-cell-requires c κs = let s = c .before .before .before .before .before in
-    let l = c .before .before .loop in
-    let t = c .before .loop-test .taken in
-    (sized (c .before), (omega (arith, s .pre .1), unfold vertexAt in rw (← s .pre .0 .dims) (omega (arith, l .inv .1 .1, s .pre .1))))
+write-cell-requires c κs =
+    let t = c .before in
+    let d = t .before .before in
+    let s = d .before .before .before in
+    (omega (arith, s .pre .0 .most, d .before .cells .ensures, t .loop-test .taken), (four d, (s .pre .0 .long, omega (arith, room t, t .before .loop .inv .0 .long))))
 
-add-at-2 : tie.Need-add-at-2 Inv-loop μ-loop
-add-at-2 c = omega (arith, room (c .before .before .before .before), c .before .before .before .before .before .before .before .before .pre .0 .room, c .before .before .before .before .before .before .before .before .good)
+add-to : tie.Need-add-to Inv-loop μ-loop
+add-to c =
+    let t = c .before .before .before .before in
+    omega (arith, room t, t .before .before .before .before .before .good)
 
 add-c : tie.Need-add-c Inv-loop μ-loop
 add-c c = omega arith
@@ -65,22 +73,24 @@ loop-less : tie.Need-loop-less Inv-loop μ-loop
 loop-less c = omega arith
 
 loop-again : tie.Need-loop-again Inv-loop μ-loop
-loop-again c = let s = c .before .before .before .before .before .before .before .before in
-    let l = c .before .before .before .before .before .loop in
-    let t = c .before .before .before .before .loop-test .taken in
-    let n = splicing-length _ _ _ _ _ (l .inv .0) in
-    (splicing-on _ _ _ _ _ (l .inv .0) _ _ (omega arith) (omega (arith, room (c .before .before .before .before), s .pre .0 .room)) (rw n at (c .before .before .write-cell .ensures)), (omega arith, rw (add-one (l .c), mul-suc) (omega (arith, l .inv .1 .1))))
+loop-again c =
+    let t = c .before .before .before .before in
+    let l = t .before .loop in
+    (listing-more (l .inv .0) (t .loop-test .taken) _ _ (c .before .before .write-cell .kept .0) (omega arith) (c .before .before .write-cell .ensures), rw (add-one (l .c), mul-suc) (omega (arith, l .inv .1)))
 
 same-length : tie.Need-same-length Inv-loop μ-loop
-same-length c = splicing-length _ _ _ _ _ (c .before .loop .inv .0)
+same-length c = c .before .loop .inv .0 .long
 
 returns : tie.Need-returns Inv-loop μ-loop
-returns c = let s = c .before .before .before .before in
+unfolding cellsIn
+returns c =
     let l = c .before .loop in
-    let e : l .c ≡ s .args .cells = omega (arith, l .inv .1 .0, c .loop-test .left) in
-    let m : fileCells (s .args .file .now) * (fileDim (s .args .file .now) + 1) ≡ (s .args .dim + 1) * l .c = rw (e, s .pre .0 .dims, s .pre .1) (mul-comm (fileCells (s .args .file .now)) (fileDim (s .args .file .now) + 1)) in
-    let u : l .at ≡ s .args .used .0 = omega (arith, used-is _ _ _ _ (s .pre .0), l .inv .1 .1, s .pre .1) in
-    rw u at (l .inv .0 .words)
+    let d = c .before .before in
+    let h = d .before .before .before .args .head .0 in
+    let w = listing-all (l .inv .0) (c .loop-test .left) in
+    let n : l .c ≡ d .before .cells .result = omega (arith, l .inv .0 .high, c .loop-test .left) in
+    let e : l .to ≡ d .before .before .before .args .at .0 + headCells h * (headDim h + 1) = l .inv .1 ∙ rw (n, all d) in
+    rw (e, d .dimension .ensures, d .before .cells .ensures) at w
 
 pub write-cells-spec : {M : Type 1} → statement M
 write-cells-spec =
@@ -88,11 +98,13 @@ write-cells-spec =
     (tie.spec
     Inv-loop
     μ-loop
-    add-size
-    add-at
+    cells-requires
+    dimension-requires
+    cast-n
+    add-n
     loop-holds
     write-cell-requires
-    add-at-2
+    add-to
     add-c
     loop-less
     loop-again

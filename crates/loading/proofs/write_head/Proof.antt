@@ -1,76 +1,58 @@
--- The five words of the head stand where the loaded words have them.
-use mathlib.Core.Path.{_≡_, refl, sym, ap, _∙_}
-use mathlib.Core.List.{List}
-use Prim.Native.Nat.{ℕ, _+_, _*_, _^_, _≤_, _<_}
+-- Five words, one behind the other.
+use mathlib.Core.Path.{refl, ap, _∙_}
+use Prim.Native.Nat.{ℕ, _*_, _%_, _^_}
 use native.Mathlib.Omega.{arith}
-use lib.ListN.{length, getD, length-set}
-use Rattle.rules.specs.Lists.{filled}
-use Rattle.rules.specs.File.{fileCells}
+use lib.ListN.{length-set}
+use Rattle.rules.specs.File.{headDim}
 use Rattle.rules.specs.Book.{key}
-use Rattle.rules.specs.Calls.{loaded}
-use Rattle.rules.proofs.Fields.{dim-below}
-use Rattle.rules.proofs.LoadedWords.{loaded-head}
-use Rattle.rules.proofs.Spliced.{Splicing, splicing-none, splicing-length, splicing-more}
-use Rattle.loading.proofs.Sizes.{cells-below, vertices-below, wanted-length, used-is, word, power}
+use Rattle.relations.proofs.Appended.{written-none, written-more}
+use Rattle.loading.proofs.Whole.{power}
 use borrow.Author.Needs.{needs}
 use Rattle.loading.proofs.write_head.Statement.{statement}
 use Rattle.loading.proofs.write_head.Tie as tie
-use Rattle.loading.proofs.write_head.Reads as reads
-use Rattle.loading.proofs.write_head.Lts as lts
-use Rattle.dayfile.proofs.header.Reads as header-reads
-
-header-requires : tie.Need-header-requires
-header-requires c κs = search needs
 
 slice-write-book : tie.Need-slice-write-book
-slice-write-book c = omega (arith, used-is _ _ _ _ (c .before .before .before .pre), c .before .before .before .pre .room)
+slice-write-book c = search needs
+
+dimension-requires : tie.Need-dimension-requires
+dimension-requires c κs = search needs
 
 mul-book : tie.Need-mul-book
-mul-book c = omega (arith, dim-below (c .before .before .before .args .file .now), c .before .before .before .pre .dims)
+mul-book c = search needs
 
 shl-book : tie.Need-shl-book
-shl-book c = omega (arith, dim-below (c .before .before .before .args .file .now), c .before .before .before .pre .dims)
+shl-book c = search needs
 
 slice-write-book-2 : tie.Need-slice-write-book-2
-slice-write-book-2 c = simp length-set (omega (arith, used-is _ _ _ _ (c .before .before .before .pre), c .before .before .before .pre .room))
+slice-write-book-2 c = simp length-set (omega (arith, c .before .before .pre .0))
 
 slice-write-book-3 : tie.Need-slice-write-book-3
-slice-write-book-3 c = simp length-set (omega (arith, used-is _ _ _ _ (c .before .before .before .pre), c .before .before .before .pre .room))
+slice-write-book-3 c = simp length-set (omega (arith, c .before .before .pre .0))
 
 slice-write-book-4 : tie.Need-slice-write-book-4
-slice-write-book-4 c = simp length-set (omega (arith, used-is _ _ _ _ (c .before .before .before .pre), c .before .before .before .pre .room))
+slice-write-book-4 c = simp length-set (omega (arith, c .before .before .pre .0))
 
 cast-book : tie.Need-cast-book
-cast-book c = omega (arith, used-is _ _ _ _ (c .before .before .before .before .pre), cells-below (c .before .before .before .before .args .file .now), vertices-below (c .before .before .before .before .args .file .now) (fileCells (c .before .before .before .before .args .file .now)))
+cast-book c = search needs
 
 slice-write-book-5 : tie.Need-slice-write-book-5
-slice-write-book-5 c = simp length-set (omega (arith, used-is _ _ _ _ (c .before .before .before .before .pre), c .before .before .before .before .pre .room))
+slice-write-book-5 c = search needs
 
 same-length : tie.Need-same-length
 same-length c = search needs
 
 returns : tie.Need-returns
 returns c =
-    let s = c .before .before .before .before in
-    let f = s .args .file .now in
-    let h = loaded-head f in
-    let w = word _ _ _ _ (s .pre) in
-    let l : 5 ≤ length (s .args .book .now) = omega (arith, used-is _ _ _ _ (s .pre), s .pre .room) in
-    let d : s .args .dim < 4 = omega (arith, dim-below f, s .pre .dims) in
-    let a = splicing-none _ (s .args .book .now) 0 (omega arith) (wanted-length _ _ _ _ (s .pre)) in
-    let b = splicing-more _ _ _ _ _ a _ (omega arith) (c .before .header .ensures ∙ w 0 _ (h .0)) in
-    let e = splicing-more _ _ _ _ _ b _ (omega arith) (power (s .args .dim) d ∙ ap (λ (x : ℕ). 2 ^ key x 0) (s .pre .dims) ∙ w 1 _ (h .1)) in
-    let g = splicing-more _ _ _ _ _ e 0 (omega arith) (w 2 _ (h .2)) in
-    let i = splicing-more _ _ _ _ _ g 0 (omega arith) (w 3 _ (h .3)) in
-    let j = splicing-more _ _ _ _ _ i _ (omega arith) (used-is _ _ _ _ (s .pre) ∙ w 4 _ (h .4)) in
-    j .words
+    let s = c .before .before .before in
+    let p = ap (λ (d : ℕ). (1 * 2 ^ (4 * d)) % 4294967296) (c .before .dimension .ensures) ∙ power (headDim (s .args .head .0)) (s .pre .1 .1) in
+    rw p (written-more (written-more (written-more (written-more (written-more (written-none (s .args .book .now) 0 0 refl) (s .args .head .0)) (2 ^ key (headDim (s .args .head .0)) 0)) 0) 0) (s .args .used .0))
 
 pub write-head-spec : {M : Type 1} → statement M
 write-head-spec =
     tie.close
     (tie.spec
-    header-requires
     slice-write-book
+    dimension-requires
     mul-book
     shl-book
     slice-write-book-2

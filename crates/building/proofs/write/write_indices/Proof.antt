@@ -4,18 +4,18 @@ use mathlib.Core.Path.{_≡_}
 use Prim.Native.Nat.{_-_}
 use native.Mathlib.Omega.{arith}
 use Rattle.building.specs.Sets.{vertices}
-use Rattle.building.proofs.Rows.{Listing, listing-none, listing-more, listing-all}
+use Rattle.relations.proofs.Listing.{Listing, listing-none, listing-more, listing-all}
 use Rattle.building.proofs.write.write_indices.Statement.{statement}
 use Rattle.building.proofs.write.write_indices.Tie as tie
 
 abbrev Inv-loop : tie.InvT-loop
-Inv-loop book₀ sets n d to₀ i₀ book to i = Listing book₀ to₀ n (vertices d sets) book to i
+Inv-loop book₀ sets n d to₀ i₀ book to i = Listing book₀ to₀ n 3 (vertices d sets) book to i
 
 abbrev μ-loop : tie.MeasureT-loop
 μ-loop book₀ sets n d to₀ i₀ book to i = n - i
 
 loop-holds : tie.Need-loop-holds Inv-loop μ-loop
-loop-holds c = listing-none _ _ _ _
+loop-holds c = listing-none _ _ _ _ _
 
 write-set-requires : tie.Need-write-set-requires Inv-loop μ-loop
 write-set-requires c κs =

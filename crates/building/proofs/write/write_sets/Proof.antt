@@ -1,5 +1,6 @@
 -- Rows of one length: the offsets are its multiples, and behind them stand the rows.
-use Rattle.building.proofs.Rows.{even-written, vertices-length}
+use Rattle.relations.proofs.Listing.{even-written}
+use Rattle.building.proofs.Rows.{vertices-length}
 use borrow.Author.Needs.{needs}
 use Rattle.building.proofs.write.write_sets.Statement.{statement}
 use Rattle.building.proofs.write.write_sets.Tie as tie
@@ -27,7 +28,7 @@ returns c =
     let i = c .before .before in
     let o = i .before .before .before .before .before in
     let s = o .before .before .before in
-    even-written _ _ (vertices-length _ _ (s .pre .1 .1)) _ (o .write-offsets .ensures) (o .write-offsets .kept .0) (i .write-indices .ensures)
+    even-written _ _ (vertices-length _ _ (s .pre .1 .1)) _ (o .write-offsets .ensures) (i .write-indices .ensures)
 
 pub write-sets-spec : {M : Type 1} → statement M
 write-sets-spec =

@@ -5,7 +5,7 @@ use lib.ListN.{length}
 use Rattle.dayfile.specs.Numbers.{numbers}
 use Rattle.dayfile.proofs.Numbers.{length-numbers, number-at}
 use Rattle.rules.proofs.Numbered.{four-members}
-use Rattle.dayfile.proofs.FourWords.{stored-long, stored-front, stored-row}
+use Rattle.dayfile.proofs.FourWords.{stored-long, stored-front, stored-rest, stored-row}
 use borrow.Author.Needs.{needs}
 use Rattle.dayfile.proofs.faults.put_cell.Statement.{statement}
 use Rattle.dayfile.proofs.faults.put_cell.Tie as tie
@@ -69,7 +69,7 @@ returns c =
     let four : length v ≡ 4 = search needs in
     let n = four-members (numbers v) (length-numbers v ∙ four) in (
       stored-row xs (a .c .0) _ _ _ _ (omega arith) ∙ sym (rw (← number-at v 0, ← number-at v 1, ← number-at v 2, ← number-at v 3) n),
-      (stored-front xs (a .c .0) _ _ _ _, stored-long xs (a .c .0) _ _ _ _ ∙ c .before .pre .1),
+      (stored-front xs (a .c .0) _ _ _ _, (stored-rest xs (a .c .0) _ _ _ _, stored-long xs (a .c .0) _ _ _ _ ∙ c .before .pre .1)),
     )
 
 pub put-cell-spec : {M : Type 1} → statement M

@@ -9,7 +9,7 @@ use Rattle.dayfile.proofs.faults.put_cells.Statement.{statement}
 use Rattle.dayfile.proofs.faults.put_cells.Tie as tie
 
 abbrev Inv-loop : tie.InvT-loop
-Inv-loop file words₀ count c₀ words c = (c ≤ count) × Put file words c
+Inv-loop file words₀ count c₀ words c = (c ≤ count) × Put file words₀ words c
 
 abbrev μ-loop : tie.MeasureT-loop
 μ-loop file words₀ count c₀ words c = count - c
@@ -38,7 +38,7 @@ unfolding fourWords
 loop-again c =
     let l = c .before .before .before .before .before .loop in
     let e = c .put-cell .ensures in
-    (omega (arith, c .before .before .before .before .loop-test .taken), put-more _ (l .words) (c .put-cell .last .0) (l .c) (l .inv .1) (e .1 .1) (e .1 .0) (e .0 ∙ c .before .before .before .cell .ensures))
+    (omega (arith, c .before .before .before .before .loop-test .taken), put-more _ _ (l .words) (c .put-cell .last .0) (l .c) (l .inv .1) (e .1 .1 .1) (e .1 .0) (e .1 .1 .0) (e .0 ∙ c .before .before .before .cell .ensures))
 
 returns : tie.Need-returns Inv-loop μ-loop
 returns c =
