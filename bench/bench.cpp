@@ -96,13 +96,17 @@ static void must(bool ok, const char *what) {
     }
 }
 
+// Where a call would say that its book is broken; none here is.
+static uint32_t key;
+static size_t position;
+
 // The loaded book with these relations, in a room of so many words.
 static std::vector<uint32_t> book_with(const Named &m, const std::vector<std::pair<unsigned, unsigned>> &asked, size_t room = 1 << 21) {
     std::vector<uint32_t> book(room);
     auto file = file_of(m);
     uint32_t cell;
     must(daybook_load(file.data(), file.size(), book.data(), room, &cell) == 0, "load");
-    for (auto a : asked) must(daybook_ask(book.data(), room, a.first, a.second) == 0, "ask");
+    for (auto a : asked) must(daybook_ask(book.data(), room, a.first, a.second, &key, &position) == 0, "ask");
     return book;
 }
 
@@ -155,7 +159,7 @@ static void compare(const Named &m, const std::string &what, const std::vector<s
     auto accepted = [&] { return std::count(answers.begin(), answers.end(), 0u) == long(answers.size()); };
     auto ask = [&](std::vector<uint32_t> &b) {
         if (by_list) return must(daybook_ask_list(b.data(), room, pairs.data(), pairs.size(), answers.data(), answers.size()) == 0 && accepted(), "list");
-        for (auto a : asked) must(daybook_ask(b.data(), room, a.first, a.second) == 0, "ask");
+        for (auto a : asked) must(daybook_ask(b.data(), room, a.first, a.second, &key, &position) == 0, "ask");
     };
     auto ask_plainly = [&](plain::Book &b) {
         if (by_list) return must(plain::ask_list(b, pairs, answers) && accepted(), "plain list");
@@ -178,7 +182,8 @@ static void compare_files(const Named &m) {
     must(same(book, plainly), "the two programs load different cells");
     std::vector<uint8_t> ours(file.size()), theirs;
     size_t length = 0;
-    line(m, "write", book.size(), best(nothing, [&](int) { must(daybook_write(book.data(), book.size(), ours.data(), ours.size(), &length) == 0, "write"); }, 9),
+    auto write = [&](int) { must(daybook_write(book.data(), book.size(), ours.data(), ours.size(), &length, &key, &position) == 0, "write"); };
+    line(m, "write", book.size(), best(nothing, write, 9),
          best(nothing, [&](int) { must(plain::write(plainly, theirs), "plain write"); }, 9));
     must(ours == theirs && length == ours.size(), "the two programs write different files");
 }
@@ -220,7 +225,7 @@ static void compare_closures(const Named &m) {
     auto nothing = [] { return 0; };
     auto close = [&](int) {
         must(daybook_closures(book.data(), room, counts.data(), counts.size(), ours.closures.data(), ours.closures.size(), ours.steps.data(), ours.steps.size(),
-                              ours.masked.data(), ours.masked.size()) == 0, "closures");
+                              ours.masked.data(), ours.masked.size(), &key, &position) == 0, "closures");
     };
     auto close_plainly = [&](int) { must(plain::closures(plainly, counts, theirs.closures, theirs.steps, theirs.masked), "plain closures"); };
     line(m, "closures", room, best(nothing, close, 9), best(nothing, close_plainly, 9));
@@ -253,7 +258,7 @@ static void compare_rows(const Named &m, size_t words) {
     compare_calls(m, "row", words,
         [&](const std::vector<uint32_t> &book, uint32_t k) {
             size_t start = 0, count = 0;
-            must(daybook_row(book.data(), words, 3, 2, k % cells, &start, &count) == 0, "row");
+            must(daybook_row(book.data(), words, 3, 2, k % cells, &start, &count, &key, &position) == 0, "row");
             return book[start] + count;
         },
         [&](const plain::Book &book, uint32_t k) {
@@ -266,7 +271,7 @@ static void compare_rows(const Named &m, size_t words) {
         [&](const std::vector<uint32_t> &book, uint32_t k) {
             uint32_t yes = 0;
             size_t read = 0;
-            must(daybook_find(book.data(), words, 3, 2, k % cells, book[3] - 1, &yes, &read) == 0, "find");
+            must(daybook_find(book.data(), words, 3, 2, k % cells, book[3] - 1, &yes, &read, &key, &position) == 0, "find");
             return yes + read;
         },
         [&](const plain::Book &book, uint32_t k) {

@@ -13,8 +13,11 @@
  *   'P' n f s m, the lists  phase closures: n counts, and f closures, s steps (8 bytes each) and m bytes as they are before it
  *   'C'                     a checksum only
  *
+ * Behind each letter stands what the places for a key (4 bytes) and a position (8 bytes) hold before the call.
+ *
  * An answer: the call's number (4 bytes), two out places (8 bytes each; they hold OUT before the call),
- * checksums of the book and of the byte buffer (4 bytes each), and 1 where every guard still stands (4 bytes).
+ * checksums of the book and of the byte buffer (4 bytes each), 1 where every guard still stands (4 bytes),
+ * and what the places for a key and a position hold after the call.
  * For a list of asks the byte buffer is the answers, and the first out place a checksum of the pairs.
  * For phase closures the byte buffer is the masked bytes, the first out place a checksum of the counts, and the
  * second those of the closures (its lower half) and of the steps (its upper half).
@@ -86,6 +89,10 @@ int main(void) {
     crc_table();
     while ((call = getchar()) != EOF) {
         struct lent bytes = lend(0), pairs = lend(0), counts = lend(0), closures = lend(0), steps = lend(0);
+        struct lent place[2] = {lend(0), lend(0)};
+        take(&place[0], 4), take(&place[1], 8);
+        uint32_t *key = (uint32_t *)at(place[0]);
+        size_t *position = (size_t *)at(place[1]);
         uint64_t out[2] = {OUT, OUT};
         uint32_t given = 0, d = 0, e = 0, i;
         uint32_t *words = (uint32_t *)at(book);
@@ -102,11 +109,11 @@ int main(void) {
             break;
         case 'M':
             d = number(), e = number();
-            given = daybook_make(words, n, d, e);
+            given = daybook_make(words, n, d, e, key, position);
             break;
         case 'A':
             d = number(), e = number();
-            given = daybook_ask(words, n, d, e);
+            given = daybook_ask(words, n, d, e, key, position);
             break;
         case 'Q':
             d = number(), e = number();
@@ -118,7 +125,7 @@ int main(void) {
             size_t start, count;
             memcpy(&start, out, sizeof start), memcpy(&count, out, sizeof count);
             d = number(), e = number(), i = number();
-            given = daybook_row(words, n, d, e, i, &start, &count);
+            given = daybook_row(words, n, d, e, i, &start, &count, key, position);
             memcpy(out, &start, sizeof start), memcpy(out + 1, &count, sizeof count);
             break;
         }
@@ -127,7 +134,7 @@ int main(void) {
             size_t read;
             memcpy(&read, out + 1, sizeof read);
             d = number(), e = number(), i = number(), j = number();
-            given = daybook_find(words, n, d, e, i, j, (uint32_t *)out, &read);
+            given = daybook_find(words, n, d, e, i, j, (uint32_t *)out, &read, key, position);
             memcpy(out + 1, &read, sizeof read);
             break;
         }
@@ -135,7 +142,7 @@ int main(void) {
             size_t start, count;
             d = number(), e = number();
             out[0] = out[1] = 0;
-            while (!(given = daybook_row(words, n, d, e, (uint32_t)out[0], &start, &count))) out[0]++, out[1] += count;
+            while (!(given = daybook_row(words, n, d, e, (uint32_t)out[0], &start, &count, key, position))) out[0]++, out[1] += count;
             break;
         }
         case 'W': {
@@ -143,12 +150,12 @@ int main(void) {
             memcpy(&length, out, sizeof length);
             i = number();
             take(&bytes, i);
-            given = daybook_write(words, n, at(bytes), i, &length);
+            given = daybook_write(words, n, at(bytes), i, &length, key, position);
             memcpy(out, &length, sizeof length);
             break;
         }
         case 'E':
-            given = daybook_euler(words, n, (int64_t *)out);
+            given = daybook_euler(words, n, (int64_t *)out, key, position);
             break;
         case 'H':
             given = daybook_held_count(words, n, (uint32_t *)out);
@@ -157,7 +164,7 @@ int main(void) {
             uint32_t m;
             d = number(), e = number(), i = number(), m = number();
             take(&counts, (size_t)d * 4), take(&closures, (size_t)e * 4), take(&steps, (size_t)i * 8), take(&bytes, m);
-            given = daybook_closures(words, n, (int32_t *)at(counts), d, (int32_t *)at(closures), e, (double *)at(steps), i, at(bytes), m);
+            given = daybook_closures(words, n, (int32_t *)at(counts), d, (int32_t *)at(closures), e, (double *)at(steps), i, at(bytes), m, key, position);
             out[0] = crc(at(counts), counts.size);
             out[1] = crc(at(closures), closures.size) | (uint64_t)crc(at(steps), steps.size) << 32;
             break;
@@ -168,13 +175,15 @@ int main(void) {
             return 2;
         }
         uint32_t stand = stands(book) & stands(bytes) & stands(pairs) & stands(counts) & stands(closures) & stands(steps);
+        stand &= stands(place[0]) & stands(place[1]);
         uint32_t rest[3] = {crc(at(book), book.size), crc(at(bytes), bytes.size), stand};
         fwrite(&given, 4, 1, stdout);
         fwrite(out, 8, 2, stdout);
         fwrite(rest, 4, 3, stdout);
+        fwrite(key, 4, 1, stdout), fwrite(position, 8, 1, stdout);
         for (i = 0; call == 'T' && i < out[0]; i++) {
             size_t start, count;
-            daybook_row(words, n, d, e, i, &start, &count);
+            daybook_row(words, n, d, e, i, &start, &count, key, position);
             uint32_t length = (uint32_t)count;
             fwrite(&length, 4, 1, stdout);
             fwrite(words + start, 4, count, stdout);
@@ -182,6 +191,7 @@ int main(void) {
         fflush(stdout);
         free(bytes.whole), free(pairs.whole);
         free(counts.whole), free(closures.whole), free(steps.whole);
+        free(place[0].whole), free(place[1].whole);
     }
     free(book.whole);
     return 0;

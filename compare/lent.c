@@ -1,5 +1,6 @@
 /* Runs of the C interface that need C: the sizes that the header promises are enough, the stack that each call
- * needs, measured by painting it, what a search reads of a row, and calls on different books side by side in threads.
+ * needs, on right and on broken books, measured by painting it, what a search reads of a row, and calls on different
+ * books side by side in threads.
  *
  * Prints what it measured, and ends with 1 at the first thing that is not as the header says.
  */
@@ -138,6 +139,13 @@ static size_t file_of(struct mesh m, uint8_t *bytes) {
     return length;
 }
 
+/* An ask of a book that is not broken. */
+static uint32_t ask(uint32_t *book, size_t words, uint32_t d, uint32_t e) {
+    uint32_t key;
+    size_t position;
+    return daybook_ask(book, words, d, e, &key, &position);
+}
+
 /* ---- the sizes that the header promises */
 
 static uint8_t file[32768];
@@ -149,7 +157,7 @@ static void enough(const char *name, struct mesh m) {
     if (daybook_load(file, file_of(m, file), book, words, &cell)) fail(name);
     for (unsigned d = 0; d <= m.dim; d++)
         for (unsigned e = 0; e <= m.dim; e++)
-            if (daybook_ask(book, words, d, e)) fail(name);
+            if (ask(book, words, d, e)) fail(name);
     printf("%s: all relations take %u words; %s gives %llu\n", name, (unsigned)book[4], m.sheet ? "DAYBOOK_WORDS_SHEET" : "DAYBOOK_WORDS_ANY",
            (unsigned long long)words);
     free(book);
@@ -163,8 +171,8 @@ struct call {
     int which;
     unsigned d, e;
     uint32_t *book;
-    size_t words, size;
-    uint32_t number;
+    size_t words, size, position;
+    uint32_t number, key;
 };
 
 /* The lists of phase closures, as long as a mesh of the full size asks. */
@@ -178,9 +186,10 @@ static void fill_counts(void) {
 }
 
 /* Phase closures with lists as long as the book asks; word 3 has the number of faces for tetrahedra, and for triangles the faces are the cells. */
-static uint32_t closures_of(const uint32_t *book, size_t words) {
+static uint32_t closures_of(struct call *c) {
+    const uint32_t *book = c->book;
     size_t faces = book[0] >> 30 == 3 ? book[3] : book[0] >> 3 & 0x1FFF;
-    return daybook_closures(book, words, counts, book[0] >> 16 & 0x3FFF, closures, faces, steps, book[2], masked, book[2]);
+    return daybook_closures(book, c->words, counts, book[0] >> 16 & 0x3FFF, closures, faces, steps, book[2], masked, book[2], &c->key, &c->position);
 }
 
 static void *make_call(void *place) {
@@ -192,15 +201,15 @@ static void *make_call(void *place) {
     static uint8_t bytes[32768];
     switch (c->which) {
     case 0: c->number = daybook_load(file, c->size, c->book, c->words, &cell); break;
-    case 1: c->number = daybook_ask(c->book, c->words, c->d, c->e); break;
-    case 2: c->number = daybook_make(c->book, c->words, c->d, c->e); break;
-    case 3: c->number = daybook_row(c->book, c->words, c->d, c->e, 0, &start, &length); break;
-    case 4: c->number = daybook_write(c->book, c->words, bytes, sizeof bytes, &length); break;
-    case 5: c->number = daybook_euler(c->book, c->words, &euler); break;
+    case 1: c->number = daybook_ask(c->book, c->words, c->d, c->e, &c->key, &c->position); break;
+    case 2: c->number = daybook_make(c->book, c->words, c->d, c->e, &c->key, &c->position); break;
+    case 3: c->number = daybook_row(c->book, c->words, c->d, c->e, 0, &start, &length, &c->key, &c->position); break;
+    case 4: c->number = daybook_write(c->book, c->words, bytes, sizeof bytes, &length, &c->key, &c->position); break;
+    case 5: c->number = daybook_euler(c->book, c->words, &euler, &c->key, &c->position); break;
     case 6: c->number = daybook_held_count(c->book, c->words, &count); break;
-    case 7: c->number = daybook_find(c->book, c->words, c->d, c->e, 0, 0, &yes, &length); break;
+    case 7: c->number = daybook_find(c->book, c->words, c->d, c->e, 0, 0, &yes, &length, &c->key, &c->position); break;
     case 8: c->number = daybook_ask_list(c->book, c->words, pair, 2, &yes, 1) | yes; break;
-    case 9: c->number = closures_of(c->book, c->words); break;
+    case 9: c->number = closures_of(c); break;
     default: break;
     }
     return NULL;
@@ -223,9 +232,32 @@ static size_t painted(struct call *c) {
 
 static size_t most[CALLS];
 
+/* The calls that check the whole book, on one that is broken here. */
+static void find_broken(struct call *c, size_t bare, uint32_t key, size_t position) {
+    static const int checking[] = {1, 2, 4, 5, 9};
+    for (int k = 0; k < 5; k++) {
+        c->which = checking[k], c->d = 0, c->e = 0;
+        c->key = 99, c->position = 99;
+        size_t used = painted(c) - bare;
+        if (c->number != DAYBOOK_ROWS_BROKEN || c->key != key || c->position != position) fail("where a book is broken");
+        if (used > most[c->which]) most[c->which] = used;
+    }
+}
+
+/* The last free word is not 0; then the last cell is the first one again. */
+static void measure_broken(struct call *c, size_t bare, unsigned dim, unsigned cells) {
+    size_t first = 0, last = 0, count = 0;
+    c->book[c->words - 1] = 1;
+    find_broken(c, bare, DAYBOOK_FREE_WORDS, c->words - 1 - c->book[4]);
+    if (daybook_row(c->book, c->words, dim, 0, 0, &first, &count, &c->key, &c->position)) fail("the first cell");
+    if (daybook_row(c->book, c->words, dim, 0, cells - 1, &last, &count, &c->key, &c->position)) fail("the last cell");
+    memcpy(c->book + last, c->book + first, (dim + 1) * sizeof *c->book);
+    find_broken(c, bare, 4 * dim, cells + 1 + (size_t)(dim + 1) * (cells - 1));
+}
+
 static void measure(struct mesh m) {
     size_t words = 1500000;
-    struct call c = {CALLS, 0, 0, calloc(words, 4), words, file_of(m, file), 0};
+    struct call c = {CALLS, 0, 0, calloc(words, 4), words, file_of(m, file), 0, 0, 0};
     if (!c.book) exit(3);
     size_t bare = painted(&c);
     for (c.which = 0; c.which < CALLS; c.which++)
@@ -234,16 +266,17 @@ static void measure(struct mesh m) {
                 /* make and a list of asks are measured on a book that holds nothing but D -> 0 yet */
                 if (c.which == 2 || c.which == 8) daybook_load(file, c.size, c.book, c.words, &c.number);
                 /* phase closures on one that holds 1 -> 0 and 2 -> 0; intervals have no faces, and are refused */
-                if (c.which == 9 && c.d == 0 && c.e == 0) daybook_ask(c.book, c.words, 1, 0), daybook_ask(c.book, c.words, 2, 0);
+                if (c.which == 9 && c.d == 0 && c.e == 0) ask(c.book, c.words, 1, 0), ask(c.book, c.words, 2, 0);
                 uint32_t due = c.which == 9 && m.dim == 1 ? DAYBOOK_DIMENSION_OVER : DAYBOOK_ACCEPTED;
                 size_t used = painted(&c) - bare;
                 if (c.which != 2 && c.number != due) fail("the number that a call gives");
                 if (used > most[c.which]) most[c.which] = used;
-                if (c.which == 2) daybook_ask(c.book, c.words, c.d, c.e);
+                if (c.which == 2) ask(c.book, c.words, c.d, c.e);
                 if (c.which == 2)
                     for (unsigned d = 0; d <= m.dim; d++)
-                        for (unsigned e = 0; e <= m.dim; e++) daybook_ask(c.book, c.words, d, e);
+                        for (unsigned e = 0; e <= m.dim; e++) ask(c.book, c.words, d, e);
             }
+    measure_broken(&c, bare, m.dim, m.cells);
     free(c.book);
     free(m.corners);
 }
@@ -258,24 +291,24 @@ static void on_fault(int number) {
 
 /* Whether a search for j in row i of 0 -> 1 touches memory that may not be read; where it does not, it says yes after so many indices. */
 static int touches(const uint32_t *book, size_t words, uint32_t i, uint32_t j, size_t indices) {
-    uint32_t yes = 7;
-    size_t read = 7;
+    uint32_t yes = 7, key = 7;
+    size_t read = 7, position = 7;
     if (sigsetjmp(met, 1)) return 1;
-    if (daybook_find(book, words, 0, 1, i, j, &yes, &read) || yes != 1 || read != indices) fail("a search in a long row");
+    if (daybook_find(book, words, 0, 1, i, j, &yes, &read, &key, &position) || yes != 1 || read != indices) fail("a search in a long row");
     return 0;
 }
 
 /* Vertex 4096 is in all 4,096 intervals, so its row of 0 -> 1 is 0 1 2 .. 4095, which has whole pages inside. One of them may not be
  * read: a search for the last index before it is answered, and one for its first index is stopped by it. */
 static void reads_no_further(void) {
-    size_t page = (size_t)sysconf(_SC_PAGESIZE), words = 65536, start = 0, count = 0;
-    uint32_t cell, hub = 4096, *book = mmap(NULL, words * 4, PROT_READ | PROT_WRITE, MAP_PRIVATE | MAP_ANONYMOUS, -1, 0);
+    size_t page = (size_t)sysconf(_SC_PAGESIZE), words = 65536, start = 0, count = 0, position = 0;
+    uint32_t cell, key, hub = 4096, *book = mmap(NULL, words * 4, PROT_READ | PROT_WRITE, MAP_PRIVATE | MAP_ANONYMOUS, -1, 0);
     struct mesh m = empty(1, hub + 1, hub);
     struct sigaction on = {0};
     for (unsigned k = 0; k < hub; k++) add(&m, k, hub, 0, 0);
     if (book == MAP_FAILED) exit(3);
-    if (daybook_load(file, file_of(m, file), book, words, &cell) || daybook_ask(book, words, 0, 1)) fail("a star of intervals");
-    if (daybook_row(book, words, 0, 1, hub, &start, &count) || count != hub) fail("the row of the middle");
+    if (daybook_load(file, file_of(m, file), book, words, &cell) || ask(book, words, 0, 1)) fail("a star of intervals");
+    if (daybook_row(book, words, 0, 1, hub, &start, &count, &key, &position) || count != hub) fail("the row of the middle");
     size_t first = (start * 4 + page - 1) / page * page / 4;
     if (first + page / 4 > start + count) {
         printf("not run: a page of %lu bytes is longer than the row\n", (unsigned long)page);
@@ -306,7 +339,7 @@ static void *work(void *place) {
     uint32_t cell;
     w->number = daybook_load(w->file, w->size, w->book, w->words, &cell);
     for (unsigned d = 0; d <= w->book[0] >> 30; d++)
-        for (unsigned e = 0; e <= w->book[0] >> 30; e++) w->number |= daybook_ask(w->book, w->words, d, e);
+        for (unsigned e = 0; e <= w->book[0] >> 30; e++) w->number |= ask(w->book, w->words, d, e);
     return NULL;
 }
 

@@ -187,18 +187,105 @@ def damaged_book(rng, book):
     return book
 
 
+def repeat_cell(rng, book, frame, *_):
+    """A cell written over another one."""
+    cells, size = frame.counts[frame.D], frame.D + 1
+    if cells > 1:
+        first = frame.places[frame.D, 0] + cells + 1
+        one, other = [first + size * c for c in rng.sample(range(cells), 2)]
+        book[other:other + size] = book[one:one + size]
+
+
+def enlarge_index(rng, book, frame, d, e):
+    """An index that is N_e or more."""
+    first, total = frame.places[d, e] + frame.counts[d] + 1, frame.offsets(d, e)[-1]
+    if total:
+        book[first + rng.randrange(total)] = rng.choice((frame.counts[e], frame.counts[e], frame.counts[e] + 1, 0x80000000, 0xFFFFFFFF))
+
+
+def lower_index(rng, book, frame, d, e):
+    """An index that is not above the one before it, which is mostly of the same row."""
+    first, total = frame.places[d, e] + frame.counts[d] + 1, frame.offsets(d, e)[-1]
+    if total > 1:
+        at = first + rng.randrange(1, total)
+        book[at] = rng.choice((book[at - 1], rng.randrange(book[at - 1] + 1)))
+
+
+def spoil_indices(rng, book, frame, d, e):
+    """Up to six indices, one after another, that are anything up to N_e, so that faults of both kinds stand side by side."""
+    first, total = frame.places[d, e] + frame.counts[d] + 1, frame.offsets(d, e)[-1]
+    start = rng.randrange(total + 1)
+    for at in range(first + start, first + min(total, start + 6)):
+        book[at] = rng.randrange(frame.counts[e] + 1)
+
+
+def resize_row(rng, book, frame, d, e):
+    """An index more or less at the end of a row, or before the first, with all that follows moved and the used length set right."""
+    offsets, at = frame.offsets(d, e), frame.places[d, e]
+    end = rng.randrange(len(offsets))
+    word = at + len(offsets) + offsets[end]
+    more = 1 if end == 0 or offsets[end] == offsets[end - 1] or rng.random() < 0.5 else -1
+    if more == 1:
+        book.insert(word, rng.randrange(frame.counts[e] + 1))
+    else:
+        del book[word - 1]
+    for k in range(end, len(offsets)):
+        book[at + k] += more
+    book[4] += more
+
+
+def set_free_word(rng, book, frame, *_):
+    """A free word that is not 0, in a book that has one."""
+    if book[4] < len(book):
+        book[rng.randrange(book[4], len(book))] = rng.choice((1, 7, 0x80000000, 0xFFFFFFFF))
+
+
+def set_first_offset(rng, book, frame, d, e):
+    """A first offset that is not 0; where it is the last too, the frame rule looks at it, and it stays."""
+    if frame.counts[d]:
+        book[frame.places[d, e]] = rng.choice((1, 1, 2, frame.offsets(d, e)[-1] + 1, 0xFFFFFFFF))
+
+
+def set_offset(rng, book, frame, d, e):
+    """An offset but the first and the last, changed by one, or beyond one beside it, or above the total."""
+    if frame.counts[d] > 1:
+        at = frame.places[d, e] + rng.randrange(1, frame.counts[d])
+        total = frame.offsets(d, e)[-1]
+        book[at] = max(0, rng.choice((book[at] + 1, book[at] - 1, book[at + 1] + 1, book[at - 1] - 1, total + 1, 0xFFFFFFFF))) & 0xFFFFFFFF
+
+
+def spoil_offsets(rng, book, frame, d, e):
+    """Up to four offsets, one after another and without the first and the last, that are anything up to the total and one more."""
+    if frame.counts[d] > 1:
+        start = rng.randrange(1, frame.counts[d])
+        for k in range(start, min(frame.counts[d], start + 4)):
+            book[frame.places[d, e] + k] = rng.randrange(frame.offsets(d, e)[-1] + 2)
+
+
+# Those that need right offsets stand before those that spoil them.
+FAULTS = (repeat_cell, enlarge_index, lower_index, spoil_indices, resize_row, set_free_word, set_first_offset, set_offset, spoil_offsets)
+
+
+def broken_book(rng, book):
+    """One to four faults in a book that has none, in any of its relations or in one; the frame stays right, and at times a fault does no harm."""
+    book = list(book) + [0] * rng.choice((0, 1, 5))
+    frame = rules.Frame.of(book)
+    held = sorted(frame.held)
+    if rng.random() < 0.5:
+        held = [rng.choice(held + [(frame.D, 0)] * 3)]
+    for which in sorted(rng.choices(range(len(FAULTS)), k=rng.choice((1, 1, 2, 2, 3, 4)))):
+        FAULTS[which](rng, book, rules.Frame.of(book), *rng.choice(held))
+    return book
+
+
 def worn_book(rng, book):
     """A word changed that no frame rule looks at: an offset but the last, an index or a free word; or a cell written over another one."""
     book = list(book)
     frame = rules.Frame.of(book)
     if frame is None:
         return book
-    cells = frame.counts[frame.D]
-    if cells > 1 and rng.random() < 0.3:
-        size = frame.D + 1
-        first = frame.places[frame.D, 0] + cells + 1
-        one, other = [first + size * c for c in rng.sample(range(cells), 2)]
-        book[other:other + size] = book[one:one + size]
+    if frame.counts[frame.D] > 1 and rng.random() < 0.3:
+        repeat_cell(rng, book, frame)
         return book
     lasts = {frame.places[r] + frame.counts[r[0]] for r in frame.held}
     places = [at for at in range(5, len(book)) if at not in lasts]

@@ -5,9 +5,15 @@ where the library takes the quick one, so that a mistake has to be made twice to
 A file is a bytes object, a book a list of numbers below 2^32 that the calls change in place.
 """
 
+from collections import namedtuple
 from fractions import Fraction
 
-KEYS = range(16)
+FREE_WORDS = 16  # the key of the free words
+KINDS = ("first offset", "falling offset", "wrong size", "not ascending", "too large", "repeated cell", "free word")
+OWN_KINDS = ("offset i", "offset i + 1")
+
+# Where a book is broken: the two numbers that go with 11, and which fault is seen there, which no call tells.
+Place = namedtuple("Place", "key position kind")
 
 
 # ---- the day file
@@ -155,6 +161,59 @@ class Frame:
                 return False
         return not any(self.book[self.book[4]:])
 
+    def faults(self, d, e):
+        """Every position of a relation at which a fault is seen, with its kind; behind bad offsets there are no rows to look at."""
+        offsets = self.offsets(d, e)
+        found = [(0, "first offset")] if offsets[0] != 0 else []
+        for end in range(1, len(offsets)):
+            size = offsets[end] - offsets[end - 1]
+            if size < 0:
+                found.append((end, "falling offset"))
+            if e == 0 and d > 0 and size != d + 1:
+                found.append((end, "wrong size"))
+        if found:
+            return found
+        earlier, position = set(), len(offsets)
+        for row in self.rows(d, e):
+            if (d, e) == (self.D, 0) and tuple(row) in earlier:
+                found.append((position, "repeated cell"))
+            earlier.add(tuple(row))
+            for t, index in enumerate(row):
+                if t > 0 and not index > row[t - 1]:
+                    found.append((position + t, "not ascending"))
+                if index >= self.counts[e]:
+                    found.append((position + t, "too large"))
+            position += len(row)
+        return found
+
+    def first_fault(self):
+        """The place of the first relation with a fault and its lowest position, else of the first free word that is not 0, else None."""
+        for d, e in sorted(self.held):
+            found = self.faults(d, e)
+            if found:
+                return Place(4 * d + e, *min(found, key=lambda fault: fault[0]))
+        for distance, word in enumerate(self.book[self.book[4]:]):
+            if word:
+                return Place(FREE_WORDS, distance, "free word")
+        return None
+
+    def broken(self):
+        """None where the row rule holds, else the place; the rule and the search for the place are two readings of the paper."""
+        if self.rows_right():
+            return None
+        place = self.first_fault()
+        assert place, "the row rule is broken and no fault is seen"
+        return place
+
+    def own_fault(self, d, e, i):
+        """The place where a row's own two offsets are not first ≤ second ≤ total, else None."""
+        at, total = self.places[d, e], self.offsets(d, e)[-1]
+        if self.book[at + i] > total:
+            return Place(4 * d + e, i, "offset i")
+        if not self.book[at + i] <= self.book[at + i + 1] <= total:
+            return Place(4 * d + e, i + 1, "offset i + 1")
+        return None
+
 
 def words_of(rows):
     """A relation as words: its offsets, then its indices."""
@@ -202,7 +261,7 @@ def made(D, counts, rows, d, e):
     return [sorted({j for c in row for j in rows[D, 0][c]} - {i}) for i, row in enumerate(rows[0, D])]
 
 
-# ---- the calls
+# ---- the calls; those that can give 11 return, last, the place that goes with it, None with any other number
 
 def load(data, book):
     """(number, cell or None)"""
@@ -252,101 +311,104 @@ def settle(state, book):
     return 0
 
 
-def make(book, d, e):
+def checked(book):
+    """What a call that checks the whole book begins with: its frame, 10, 11 or else 0, and with 11 the place."""
     frame = Frame.of(book)
     if frame is None:
-        return 10
-    if not frame.rows_right():
-        return 11
+        return None, 10, None
+    place = frame.broken()
+    return frame, 11 if place else 0, place
+
+
+def make(book, d, e):
+    """(number, place)"""
+    frame, number, place = checked(book)
+    if number:
+        return number, place
     if d > frame.D or e > frame.D:
-        return 12
+        return 12, None
     if (d, e) in frame.held:
-        return 14
+        return 14, None
     if any(n not in frame.held for n in needs(frame.D, d, e)):
-        return 15
+        return 15, None
     state = State(frame)
     state.make(d, e)
-    return settle(state, book)
+    return settle(state, book), None
 
 
 def ask(book, d, e):
-    frame = Frame.of(book)
-    if frame is None:
-        return 10
-    if not frame.rows_right():
-        return 11
+    """(number, place)"""
+    frame, number, place = checked(book)
+    if number:
+        return number, place
     if d > frame.D or e > frame.D:
-        return 12
+        return 12, None
     state = State(frame)
     state.ask(d, e)
-    return settle(state, book)
+    return settle(state, book), None
 
 
 def ask_list(book, pairs, answers):
-    """One ask after another; each one's number goes in its place among the answers."""
+    """One ask after another; each one's number, and nothing more, goes in its place among the answers."""
     if len(pairs) % 2 == 1 or len(pairs) // 2 > 16 or len(answers) != len(pairs) // 2:
         return 20
     for place in range(len(answers)):
-        answers[place] = ask(book, pairs[2 * place], pairs[2 * place + 1])
+        answers[place] = ask(book, pairs[2 * place], pairs[2 * place + 1])[0]
     return 0
 
 
 def row(book, d, e, i):
-    """(number, start, count), the last two 0 on a refusal"""
+    """(number, start, count, place), start and count 0 on a refusal"""
     frame = Frame.of(book)
     if frame is None:
-        return 10, 0, 0
+        return 10, 0, 0, None
     if d > frame.D or e > frame.D:
-        return 12, 0, 0
+        return 12, 0, 0, None
     if (d, e) not in frame.held:
-        return 16, 0, 0
+        return 16, 0, 0, None
     if i >= frame.counts[d]:
-        return 17, 0, 0
-    offsets = frame.offsets(d, e)
-    first, second, total = offsets[i], offsets[i + 1], offsets[-1]
-    if not first <= second <= total:
-        return 11, 0, 0
-    return 0, frame.places[d, e] + frame.counts[d] + 1 + first, second - first
+        return 17, 0, 0, None
+    place = frame.own_fault(d, e, i)
+    if place:
+        return 11, 0, 0, place
+    first, second = frame.offsets(d, e)[i:i + 2]
+    return 0, frame.places[d, e] + frame.counts[d] + 1 + first, second - first, None
 
 
 def find(book, d, e, i, j):
-    """(number, yes, indices read), the last two no and 0 on a refusal"""
-    number, start, count = row(book, d, e, i)
+    """(number, yes, indices read, place), no and 0 on a refusal"""
+    number, start, count, place = row(book, d, e, i)
     if number:
-        return number, False, 0
+        return number, False, 0, place
     if j >= Frame.of(book).counts[e]:
-        return 19, False, 0
+        return 19, False, 0, None
     indices = book[start:start + count]
-    not_below = [place for place, index in enumerate(indices) if not index < j]
+    not_below = [at for at, index in enumerate(indices) if not index < j]
     leading = not_below[0] if not_below else count
     other = indices[leading:leading + 1]
-    return 0, other == [j], leading + len(other)
+    return 0, other == [j], leading + len(other), None
 
 
 def write(book, out):
-    """(number, length); out is a bytearray"""
-    frame = Frame.of(book)
-    if frame is None:
-        return 10, 0
-    if not frame.rows_right():
-        return 11, 0
+    """(number, length, place); out is a bytearray"""
+    frame, number, place = checked(book)
+    if number:
+        return number, 0, place
     data = file_bytes(frame.D, frame.counts[0], frame.rows(frame.D, 0))
     if len(out) < len(data):
-        return 18, 0
+        return 18, 0, None
     out[:len(data)] = data
-    return 0, len(data)
+    return 0, len(data), None
 
 
 def euler(book):
-    """(number, Euler number)"""
-    frame = Frame.of(book)
-    if frame is None:
-        return 10, 0
-    if not frame.rows_right():
-        return 11, 0
+    """(number, Euler number, place)"""
+    frame, number, place = checked(book)
+    if number:
+        return number, 0, place
     if any((d, 0) not in frame.held for d in range(1, frame.D)):
-        return 15, 0
-    return 0, sum((-1) ** d * frame.counts[d] for d in range(frame.D + 1))
+        return 15, 0, None
+    return 0, sum((-1) ** d * frame.counts[d] for d in range(frame.D + 1)), None
 
 
 def held_count(book):
@@ -383,23 +445,21 @@ def closure(a, b, c):
 
 
 def closures(book, counts, faces, steps, masked):
-    """The number; faces gets the closures, steps fractions of a turn, masked 1 or 0."""
-    frame = Frame.of(book)
-    if frame is None:
-        return 10
-    if not frame.rows_right():
-        return 11
+    """(number, place); faces gets the closures, steps fractions of a turn, masked 1 or 0."""
+    frame, number, place = checked(book)
+    if number:
+        return number, place
     if frame.D == 1:
-        return 12
+        return 12, None
     if not {(1, 0), (2, 0)} <= frame.held:
-        return 15
+        return 15, None
     if [len(counts), len(faces), len(steps), len(masked)] != [frame.counts[d] for d in (0, 2, 1, 1)]:
-        return 21
+        return 21, None
     if not all(map(may_be_lent, counts)):
-        return 22
+        return 22, None
     for i, row in enumerate(frame.rows(2, 0)):
         faces[i] = closure(*(counts[v] for v in row))
     for i, row in enumerate(frame.rows(1, 0)):
         taken = step(*(counts[v] for v in row))
         steps[i], masked[i] = Fraction(taken or 0, TURN), int(taken is None)
-    return 0
+    return 0, None

@@ -24,7 +24,7 @@ def with_all(data, words):
     top = book[0] >> 30
     for d in range(top + 1):
         for e in range(top + 1):
-            number = number or rules.ask(book, d, e)
+            number = number or rules.ask(book, d, e)[0]
     return number, book
 
 

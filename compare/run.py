@@ -1,10 +1,11 @@
-"""Random sequences of calls, through the C interface and through reference.py: every answer, every lent
-word, byte and float (by its bits), and every guard word must agree.
+"""Random sequences of calls, through the C interface and through reference.py: every answer, with 11 its place, every
+lent word, byte and float (by its bits), and every guard word must agree.
 
     python3 compare/run.py [--calls N] [--seed S] [--full]
 
 --full adds meshes of the full size. It prints, for each call, how often each number was given, how often each
-answer of a list of asks and each closure of a face was written, and the seed.
+answer of a list of asks and each closure of a face was written, how often random calls met each kind of place
+where a book is broken, and the seed. From 20,000 calls on each kind has to be met, from 200,000 on a hundred times.
 """
 
 import argparse
@@ -62,13 +63,14 @@ class Library:
     def __init__(self, command):
         self.process = subprocess.Popen(command, stdin=subprocess.PIPE, stdout=subprocess.PIPE)
 
-    def call(self, text):
-        self.process.stdin.write(text)
+    def call(self, text, key=0, position=0):
+        """The answer to a call; key and position are what their places hold before it."""
+        self.process.stdin.write(text[:1] + struct.pack("<IQ", key, position) + text[1:])
         self.process.stdin.flush()
-        answer = self.process.stdout.read(32)
-        if len(answer) < 32:
+        answer = self.process.stdout.read(44)
+        if len(answer) < 44:
             raise SystemExit("the library's program ended early")
-        return struct.unpack("<IQQIII", answer)
+        return struct.unpack("<IQQIIIIQ", answer)
 
     def rows(self, d, e):
         """Every row of a relation, as the row call hands them out one by one, and the number that refuses the next."""
@@ -103,6 +105,12 @@ class Runs:
         self.rng, self.library, self.left = random.Random(seed), library, calls
         self.table, self.book, self.past, self.made, self.sequences = {}, [], [], 0, 0
         self.sum = None  # the book's checksum, where it is known: it is taken anew after a call that writes
+        self.told = None  # the key and the position that the last call gave
+        self.count_kinds()
+
+    def count_kinds(self):
+        """Counts from 0 how often each kind of place is met: by the calls that check the whole book, by row and by find."""
+        self.kinds = {"places": dict.fromkeys(rules.KINDS, 0), "row's": dict.fromkeys(rules.OWN_KINDS, 0), "find's": dict.fromkeys(rules.OWN_KINDS, 0)}
 
     def fail(self, what, got, wanted):
         print("DISAGREE: %s: the library says %s, the reference %s" % (what, got, wanted))
@@ -113,14 +121,20 @@ class Runs:
         self.book, self.sum = list(book), None
         self.library.call(b"B" + struct.pack("<I%dI" % len(book), len(book), *book))
 
-    def check(self, name, text, number, first, second, data=b"", what=""):
-        got = self.library.call(text)
+    def check(self, name, text, number, first, second, data=b"", what="", place=None):
+        """Makes the call and compares all of its answer; key and position are written with a place alone, which goes with 11 alone."""
+        assert (place is None) == (number != 11)
+        before = self.rng.getrandbits(32), self.rng.getrandbits(64)
+        got = self.library.call(text, *before)
         if self.sum is None:
             self.sum = checksum(self.book)
-        wanted = (number, first, second, self.sum, zlib.crc32(data), 1)
+        wanted = (number, first, second, self.sum, zlib.crc32(data), 1) + (place[:2] if place else before)
         if got != wanted:
             self.fail("%s %s" % (name, what), got, wanted)
         self.count(name, number)
+        self.told = place and place[:2]
+        if place:
+            self.kinds.get(name + "'s", self.kinds["places"])[place.kind] += 1
         self.left -= 1
         self.made += 1
 
@@ -138,8 +152,8 @@ class Runs:
     def relation(self, name, d, e):
         self.past, self.sum = list(self.book), None
         call = {"make": rules.make, "ask": rules.ask}[name]
-        number = call(self.book, d, e)
-        self.check(name, (b"M" if name == "make" else b"A") + struct.pack("<II", d, e), number, OUT, OUT, what=(d, e))
+        number, place = call(self.book, d, e)
+        self.check(name, (b"M" if name == "make" else b"A") + struct.pack("<II", d, e), number, OUT, OUT, what=(d, e), place=place)
         return number
 
     def ask_list(self, pairs, answers):
@@ -155,28 +169,31 @@ class Runs:
 
     def row(self, d, e, i):
         self.past = self.book
-        number, start, count = rules.row(self.book, d, e, i)
+        number, start, count, place = rules.row(self.book, d, e, i)
         first, second = (OUT, OUT) if number else (start, count)
-        self.check("row", b"R" + struct.pack("<III", d, e, i), number, first, second, what=(d, e, i))
+        self.check("row", b"R" + struct.pack("<III", d, e, i), number, first, second, what=(d, e, i), place=place)
+        return number
 
     def find(self, d, e, i, j):
         self.past = self.book
-        number, yes, read = rules.find(self.book, d, e, i, j)
+        number, yes, read, place = rules.find(self.book, d, e, i, j)
         first, second = (OUT, OUT) if number else (OUT & LOW | yes, read)
-        self.check("find", b"F" + struct.pack("<IIII", d, e, i, j), number, first, second, what=(d, e, i, j))
+        self.check("find", b"F" + struct.pack("<IIII", d, e, i, j), number, first, second, what=(d, e, i, j), place=place)
         return number, yes, read
 
     def write(self, size):
         self.past = self.book
         data = bytearray(self.rng.randrange(256) for _ in range(size)) if size < 4096 else bytearray(b"\x5a" * size)
         text = b"W" + struct.pack("<I", size) + bytes(data)
-        number, length = rules.write(self.book, data)
-        self.check("write", text, number, OUT if number else length, OUT, bytes(data), size)
+        number, length, place = rules.write(self.book, data)
+        self.check("write", text, number, OUT if number else length, OUT, bytes(data), size, place)
+        return number
 
     def euler(self):
         self.past = self.book
-        number, value = rules.euler(self.book)
-        self.check("euler", b"E", number, OUT if number else value % 2 ** 64, OUT)
+        number, value, place = rules.euler(self.book)
+        self.check("euler", b"E", number, OUT if number else value % 2 ** 64, OUT, place=place)
+        return number
 
     def held_count(self):
         self.past = self.book
@@ -189,9 +206,9 @@ class Runs:
         sizes = [len(counts), len(faces), len(steps), len(masked)]
         text = b"P" + packed(sizes) + signed(counts) + signed(faces) + floats(steps) + bytes(masked)
         faces, steps, masked = list(faces), list(steps), list(masked)
-        number = rules.closures(self.book, counts, faces, steps, masked)
+        number, place = rules.closures(self.book, counts, faces, steps, masked)
         second = zlib.crc32(signed(faces)) | zlib.crc32(floats(steps)) << 32
-        self.check("closures", text, number, zlib.crc32(signed(counts)), second, bytes(masked), (sizes, counts[:200]))
+        self.check("closures", text, number, zlib.crc32(signed(counts)), second, bytes(masked), (sizes, counts[:200]), place)
         for face in faces if number == 0 else []:
             self.count("its closures", face)
         return number, faces, steps, masked
@@ -216,7 +233,7 @@ class Runs:
         """A search for an index, mostly for one that is in the row or beside one that is, or for N_e or the one before it."""
         rng = self.rng
         d, e, i, bound = self.place()
-        start, count = rules.row(self.book, d, e, i)[1:]
+        start, count = rules.row(self.book, d, e, i)[1:3]
         near = self.book[start:start + count] + ([bound, bound - 1] if bound else [])
         j = rng.choice(near) + rng.choice((0, 0, 1, -1)) if near and rng.random() < 0.8 else self.number()
         self.find(d, e, i, j & 0xFFFFFFFF)
@@ -345,6 +362,33 @@ class Runs:
         for _ in range(8):
             self.some_closures()
 
+    def broken_run(self):
+        """Faults in a right book, true or lying: calls that check the whole book, and rows and searches at the offsets that are broken, or anywhere."""
+        rng = self.rng
+        if rng.random() < 0.3:
+            self.use([7] * 400)
+            self.load(rules.file_bytes(*meshes.random_mesh(rng, rng.choice((1, 2, 3)), rng.choice((4, 6, 8)), rng.choice((1, 2, 5, 8)))))
+            self.ask_list([rng.randrange(4) for _ in range(8)], [7] * 4)
+        else:
+            self.use(meshes.lying_book(rng, 3))
+        self.use(meshes.broken_book(rng, self.book))
+        frame = rules.Frame.of(self.book)
+        rows = [(d, e, i) for d, e in sorted(frame.held) for i in range(frame.counts[d]) if frame.own_fault(d, e, i)]
+        for d, e, i in rng.sample(rows, min(2, len(rows))):
+            self.row(d, e, i)
+            self.find(d, e, i, self.number())
+        for way in rng.sample(range(6), 3):
+            if way < 2:
+                self.relation(("make", "ask")[way], self.dimension(), self.dimension())
+            elif way == 2:
+                self.write(rng.choice((0, 200)))
+            elif way == 3:
+                self.euler()
+            elif way == 4:
+                self.some_closures()
+            else:
+                self.look()
+
     def full_size(self):
         """Meshes of the full size, those of bench/ among them: whole, and one vertex, one cell or one word too many, or a cell twice."""
         rng = self.rng
@@ -377,13 +421,14 @@ class Runs:
             self.load(bytes(more))
 
     def lists_of_full_size(self):
-        """All relations of two meshes of bench/ by one list: with room for all, and with room for some."""
+        """All relations of two meshes of bench/ by one list: with room for all, where places are then looked for, and with room for some."""
         for mesh in (meshes.sheet(46, 46), meshes.box(8, 8, 10)):
             pairs = [x for d in range(mesh[0] + 1) for e in range(mesh[0] + 1) for x in (d, e)]
             for room in (1500000, 100000):
                 self.use([0xFFFFFFFF] * room)
                 self.load(rules.file_bytes(*mesh))
-                self.ask_list(pairs, [0xFFFFFFFF] * (len(pairs) // 2))
+                if not any(self.ask_list(pairs, [0xFFFFFFFF] * (len(pairs) // 2))[1]):
+                    self.places_of_full_size()
 
     def closures_of_full_size(self):
         """Phase closures of the four meshes of bench/: any counts, masked ones among them, one outside, and each list one too long or too short."""
@@ -417,6 +462,18 @@ class Runs:
             start, count = [rules.row(self.book, D, 0, c)[1] for c in (rng.randrange(last), last)], D + 1
             self.use(self.book[:start[1]] + self.book[start[0]:start[0] + count] + self.book[start[1] + count:])
             self.demand("the last cell of the book again", self.relation("ask", 0, 0), 11)
+            self.demand("the first index of the last cell", self.told, (4 * D, last + 1 + 1 + (D + 1) * last))
+
+    def places_of_full_size(self):
+        """The book with all relations, broken at its far end and then ever nearer: its last word, the last index of D→D, an offset of D→0, the first offset."""
+        frame, book, used = rules.Frame.of(self.book), list(self.book), self.book[4]
+        D, cells = frame.D, frame.counts[frame.D]
+        total = frame.offsets(D, D)[-1]
+        for at, word, place in ((len(book) - 1, 1, (16, len(book) - 1 - used)), (used - 1, cells, (4 * D + D, cells + total)),
+                                (frame.places[D, 0] + cells - 1, 0, (4 * D, cells - 1)), (5, 1, (0, 0))):
+            book[at] = word
+            self.use(book)
+            self.demand("word %d is %d" % (at, word), (self.euler(), self.told), (11, place))
 
     def demand(self, what, got, wanted):
         if got != wanted:
@@ -426,7 +483,7 @@ class Runs:
         """The rows of a relation in the book as the calls left it."""
         out = []
         while True:
-            number, start, count = rules.row(self.book, d, e, len(out))
+            number, start, count, _ = rules.row(self.book, d, e, len(out))
             if number:
                 return out
             self.row(d, e, len(out))
@@ -449,10 +506,13 @@ class Runs:
         self.demand("faces", self.rows_of(2, 0), [[0, 1, 2], [0, 1, 3], [0, 2, 3], [1, 2, 3]])
         self.demand("edges", self.rows_of(1, 0), [[0, 1], [0, 2], [0, 3], [1, 2], [1, 3], [2, 3]])
         self.euler()
-        self.demand("Euler number", rules.euler(self.book), (0, 1))
+        self.demand("Euler number", rules.euler(self.book), (0, 1, None))
         self.cells_twice(t)
         self.searches(t)
         self.lists(t)
+        self.places(t)
+        self.own_places(t)
+        self.each_word(t)
         self.phases(t)
         self.phases_refused(t)
         self.phases_cancel()
@@ -521,6 +581,72 @@ class Runs:
                 self.demand("%d numbers, %d places" % (len(pairs), places), self.ask_list(pairs, [9] * places), (20, [9] * places))
             self.demand("each answer %d" % number, self.ask_list([2, 1, 9, 9], [9] * 2), (0, [number, number or 12]))
             self.demand("no pairs at all", self.ask_list([], []), (0, []))
+
+    def nine(self, t):
+        """The words of T with all nine relations and three free words. With the word at which each begins:
+        5: 0→0, 20: 0→1, 35: 0→2, 46: 1→0, 62: 1→1, 84: 1→2, 96: 2→0, 105: 2→1, 114: 2→2, and 119 words are used."""
+        self.use([7] * 122)
+        self.load(t)
+        self.ask_list([x for d in range(3) for e in range(3) for x in (d, e)], [7] * 9)
+        self.demand("all nine", self.book[4:20] + self.book[84:],
+                    [119, 0, 2, 5, 7, 10, 1, 3, 0, 2, 3, 1, 3, 0, 1, 2] + [0, 1, 2, 4, 5, 6, 0, 0, 0, 1, 1, 1] +
+                    [0, 3, 6, 0, 1, 3, 1, 2, 3] + [0, 3, 6, 0, 1, 2, 2, 3, 4] + [0, 1, 2, 1, 0] + [0, 0, 0])
+        return list(self.book)
+
+    def broken_at(self, book, place):
+        """Every call that checks the whole book gives 11 and this place, whatever else it would refuse; a list of asks gives the number alone."""
+        self.use(book)
+        for name, call in (("make", lambda: self.relation("make", 9, 9)), ("ask", lambda: self.relation("ask", 2, 0)), ("write", lambda: self.write(3)),
+                           ("euler", self.euler), ("closures", lambda: self.closures([65535], *self.unwritten(1, 1, 1))[0])):
+            self.demand("%s of a book broken at %s" % (name, place), (call(), self.told), (11, place))
+        self.demand("a list", self.ask_list([9, 9, 2, 0], [7, 7]), (0, [11, 11]))
+
+    def places(self, t):
+        """Each kind of place, in T with all nine relations: the words that are changed, then the key and the position; and books without cells or vertices."""
+        right = self.nine(t)
+        for words, place in (
+                ({5: 1}, (0, 0)), ({46: 1}, (4, 0)), ({114: 2 ** 32 - 1}, (10, 0)),  # first offset
+                ({85: 3}, (6, 2)), ({87: 1}, (6, 3)), ({88: 7}, (6, 5)), ({23: 11}, (1, 4)), ({7: 0}, (0, 2)),  # falling offset
+                ({97: 2}, (8, 1)), ({97: 4}, (8, 1)), ({97: 7}, (8, 1)), ({48: 3}, (4, 2)), ({50: 2 ** 32 - 1}, (4, 4)),  # row of the wrong size
+                ({11: 1}, (0, 6)), ({14: 2}, (0, 9)), ({93: 0}, (6, 9)), ({101: 0}, (8, 5)), ({113: 3}, (9, 8)),  # index not above its predecessor
+                ({40: 2}, (2, 5)), ({95: 2}, (6, 11)), ({90: 2 ** 32 - 1}, (6, 6)), ({104: 4}, (8, 8)), ({118: 2}, (10, 4)),  # index too large
+                ({102: 0, 103: 1}, (8, 6)), ({99: 1, 100: 2}, (8, 6)),  # repeated cell
+                ({119: 1}, (16, 0)), ({121: 2 ** 32 - 1}, (16, 2)), ({120: 5, 121: 5}, (16, 1)),  # free word
+                ({11: 1, 7: 9}, (0, 3)), ({10: 4, 5: 1}, (0, 0)), ({40: 2, 38: 2}, (2, 3)),  # an index, and an offset that goes before it
+                ({11: 0, 10: 4}, (0, 5)), ({10: 4, 12: 4}, (0, 5)), ({19: 4, 18: 0}, (0, 13)),  # two indices
+                ({101: 1, 102: 0, 103: 1, 104: 1}, (8, 5)), ({99: 4, 102: 4, 100: 1, 103: 1}, (8, 3)),  # a repeated cell, and an index before it
+                ({97: 2, 102: 0, 103: 1}, (8, 1)), ({96: 1, 97: 2}, (8, 0)),  # a repeated cell, and an offset; two offsets
+                ({95: 2, 20: 1}, (1, 0)), ({118: 2, 40: 2}, (2, 5)), ({5: 1, 114: 1}, (0, 0)), ({93: 0, 97: 2}, (6, 9)),  # two relations
+                ({119: 1, 118: 2}, (10, 4)), ({119: 1, 5: 9}, (0, 0)), ({121: 1, 102: 0, 103: 1}, (8, 6))):  # a relation and a free word
+            self.broken_at([words.get(at, word) for at, word in enumerate(right)], place)
+        self.broken_at([0x80010000, 256, 0, 0, 8, 2, 0, 0], (8, 0))  # no cells, and two indices behind the one offset
+        self.broken_at([0x80010000, 256, 0, 0, 6, 0, 0, 3], (16, 1))
+        self.broken_at([0x40000008, 16, 0, 0, 9, 0, 2, 0, 1], (4, 2))  # one interval, and no vertices
+        self.broken_at([0x40020008, 16, 0, 0, 10, 0, 3, 0, 1, 2], (4, 1))  # a last row of the wrong size
+        self.broken_at([0x40020018, 16, 0, 0, 15, 0, 2, 4, 6, 0, 1, 0, 1, 0, 2], (4, 6))  # a repeated cell, and an index behind it
+
+    def own_places(self, t):
+        """What row and find say of 1→2 of T, whose offsets are 0 1 2 4 5 6: the words changed, the row, and the position, or None where it is accepted."""
+        right = self.nine(t)
+        for words, i, position in (({85: 7}, 0, 1), ({85: 7}, 1, 1), ({85: 7}, 2, None), ({85: 3}, 0, None), ({85: 3}, 1, 2), ({86: 0}, 1, 2), ({86: 0}, 2, None),
+                                   ({84: 7}, 0, 0), ({84: 6}, 0, 1), ({84: 1}, 0, None), ({88: 7}, 3, 4), ({88: 7}, 4, 4), ({88: 2 ** 32 - 1}, 4, 4), ({88: 6}, 4, None),
+                                   ({85: 9, 86: 8}, 1, 1), ({85: 8, 86: 9}, 1, 1), ({85: 6, 86: 9}, 1, 2), ({5: 1, 121: 1}, 2, None), ({90: 9}, 0, None)):
+            self.use([words.get(at, word) for at, word in enumerate(right)])
+            wanted = (0, None) if position is None else (11, (6, position))
+            self.demand("row %d with %s" % (i, words), (self.row(1, 2, i), self.told), wanted)
+            self.demand("a search in row %d with %s" % (i, words), (self.find(1, 2, i, 0)[0], self.told), wanted)
+            self.demand("an index that is none", (self.find(1, 2, i, 2)[0], self.told), wanted if position is not None else (19, None))
+
+    def each_word(self, t):
+        """Each word of T with all nine relations changed: the row rule is broken exactly where a place is found, and it is the library's."""
+        right = self.nine(t)
+        for at in range(5, len(right)):
+            for word in {0, 1, 2, 3, 4, 5, right[at] + 1, max(0, right[at] - 1), 2 ** 32 - 1}:
+                self.use(right[:at] + [word] + right[at + 1:])
+                frame = rules.Frame.of(self.book)
+                if frame:
+                    self.demand("word %d is %d: broken" % (at, word), frame.rows_right(), frame.first_fault() is None)
+                    self.euler()
 
     def written(self, counts, faces, steps, masked):
         """Phase closures that write these closures, steps in 65,536ths, and masked bytes."""
@@ -601,15 +727,18 @@ class Runs:
         self.examples()
         if full:
             self.full_size()
+        self.count_kinds()
         while self.left > 0:
             self.sequences += 1
             way = self.rng.random()
-            if way < 0.5:
+            if way < 0.45:
                 self.true_run()
-            elif way < 0.85:
+            elif way < 0.75:
                 self.strange_run()
-            else:
+            elif way < 0.88:
                 self.phase_run()
+            else:
+                self.broken_run()
 
 
 def main():
@@ -622,6 +751,11 @@ def main():
     runs.run(given.full)
     for name, row in runs.table.items():
         print("%-12s %s" % (name, "  ".join("%d: %d" % (n, row[n]) for n in sorted(row))))
+    least = 100 if given.calls >= 200000 else 1 if given.calls >= 20000 else 0
+    for name, row in runs.kinds.items() if runs.sequences else ():
+        print("%-12s %s" % (name, "  ".join("%s: %d" % kind for kind in row.items())))
+        if min(row.values()) < least:
+            raise SystemExit("a kind of place was met less than %d times" % least)
     print("compare: %d calls in %d sequences agree, seed %d" % (runs.made, runs.sequences, given.seed))
 
 

@@ -1,10 +1,12 @@
 """Tests mesh.py: it makes the example files as they stand here, its pictures count the edges and colour the triangles as the
-separate program does, and Gmsh files come out as the bytes written below, or with one line that says what is wrong.
+separate program does, and Gmsh files come out as the bytes written below, or with one line that says what is wrong. The broken
+book is broken in the one word that README.md shows.
 
     python3 examples/check.py
 """
 
 import os
+import struct
 import subprocess
 import sys
 import tempfile
@@ -17,7 +19,7 @@ import phases  # noqa: E402
 import reference as rules  # noqa: E402
 import shapes  # noqa: E402
 
-FILES = ("t.day", "t.xy", "dam.day", "dam.xy", "dam.counts", "stack.day", "stack.xy")
+FILES = ("t.day", "t.xy", "dam.day", "dam.xy", "dam.counts", "stack.day", "stack.xy", "broken.book")
 COLOURS = {"minus": -1, "cells": 0, "plus": 1, "masked": 2}
 T = bytes.fromhex("80040010 0000004006001001000c")
 TETRAHEDRON = bytes.fromhex("c0040008 00180040000020")
@@ -150,12 +152,22 @@ def made(folder):
     demand("T", contents(folder, "t.day"), T)
 
 
+def broken():
+    """The book that the separate program makes of T, but for word 87: 1→2 begins at word 84, and its offsets are 0 1 2 4 5 6."""
+    book, right = list(struct.unpack("<128I", contents(HERE, "broken.book"))), [0] * 128
+    demand("load", rules.load(T, right), (0, None))
+    demand("ask", [rules.ask(right, d, e) for d in range(3) for e in range(3)], [(0, None)] * 9)
+    demand("the words that are changed", [(at, word, right[at]) for at, word in enumerate(book) if word != right[at]], [(87, 0, 4)])
+    demand("where the book is broken", rules.euler(book), (11, 0, (6, 3, "falling offset")))
+    demand("README.md shows where", b"\n$ target/where examples/broken.book\nrelation 1\xe2\x86\x922, offset 3\n" in contents(HERE, "..", "README.md"), True)
+
+
 def incidence(day):
     """N_0 to N_D, and how many edges touch one cell, two, and more, by the separate program."""
     book = [0] * (1 << 18)
     demand("load", rules.load(contents(day), book), (0, None))
     D = book[0] >> 30
-    demand("ask", [rules.ask(book, d, e) for d, e in [(1, D)] + [(d, 0) for d in range(1, D)]], [0] * D)
+    demand("ask", [rules.ask(book, d, e) for d, e in [(1, D)] + [(d, 0) for d in range(1, D)]], [(0, None)] * D)
     frame = rules.Frame.of(book)
     touched = [len(row) for row in frame.rows(1, D)]
     kinds = {"one": touched.count(1), "two": touched.count(2), "more": sum(n > 2 for n in touched)}
@@ -166,10 +178,10 @@ def closures(day, counts):
     """Each face's closure, and for each edge whether it is masked, by the separate program."""
     book = [0] * (1 << 18)
     demand("load", rules.load(contents(day), book), (0, None))
-    demand("ask", [rules.ask(book, d, 0) for d in (1, 2)], [0, 0])
+    demand("ask", [rules.ask(book, d, 0) for d in (1, 2)], [(0, None)] * 2)
     sizes = rules.Frame.of(book).counts
     faces, steps, masked = [[None] * sizes[d] for d in (2, 1, 1)]
-    demand("closures", rules.closures(book, counts, faces, steps, masked), 0)
+    demand("closures", rules.closures(book, counts, faces, steps, masked), (0, None))
     return faces, masked
 
 
@@ -316,6 +328,7 @@ def gmsh_files(folder):
 def main():
     with tempfile.TemporaryDirectory() as folder:
         made(folder)
+        broken()
         pictures(folder)
         closure_pictures(folder)
         refusals(folder)

@@ -1,5 +1,5 @@
 #!/usr/bin/env python3
-"""The example meshes: writes their day files, turns a Gmsh file into a day file, and draws a day file.
+"""The example meshes: writes their day files and a broken book, turns a Gmsh file into a day file, and draws a day file.
 
     python3 examples/mesh.py make
     python3 examples/mesh.py from-msh IN.msh OUT.day [--xy OUT.xy]
@@ -16,6 +16,7 @@ of the way around by ascending vertices, be it clockwise or counterclockwise in 
 import argparse
 import math
 import os
+import struct
 import sys
 
 HERE = os.path.dirname(os.path.abspath(__file__))
@@ -48,6 +49,17 @@ def lines_of(places):
     return "".join("%s %s\n" % (x, y) for x, y in places)
 
 
+def broken_book():
+    """T with all nine relations in 128 words, and a bit turned in offset 3 of 1→2, which is 4 and becomes 0; its bytes."""
+    book = [0] * 128
+    rules.load(rules.file_bytes(*shapes.t()[0]), book)
+    for d in range(3):
+        for e in range(3):
+            rules.ask(book, d, e)
+    book[rules.Frame.of(book).places[1, 2] + 3] ^= 4
+    return struct.pack("<128I", *book)
+
+
 def make(folder):
     for shape in (shapes.t, shapes.dam, shapes.stack):
         mesh, places = shape()
@@ -59,6 +71,8 @@ def make(folder):
             counts = phases.dam(places)
             write(path + ".counts", "".join("%d\n" % count for count in counts))
             print("dam.counts: %d vertices, %d masked" % (len(counts), counts.count(rules.MASKED)))
+    write(os.path.join(folder, "broken.book"), broken_book())
+    print("broken.book: 128 words")
 
 
 def from_msh(source, day, xy):

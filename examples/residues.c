@@ -3,11 +3,12 @@
  *     residues FILE.day FILE.counts
  *
  * FILE.counts has a whole number on a line for each vertex: 65,536ths of a turn, or 65536 where the vertex is masked.
- * Built with the two files that ./library leaves in a folder:
+ * Built with place.h beside it and the two files that ./library leaves in a folder:
  *
  *     cc -std=c99 -I FOLDER residues.c FOLDER/libdaybook.a -o residues
  */
 #include "daybook.h"
+#include "place.h"
 #include <ctype.h>
 #include <stdio.h>
 #include <stdlib.h>
@@ -47,21 +48,28 @@ static uint32_t prepare(size_t size) {
 
 /* Prints a face with its closure and its vertices. */
 static void print_face(uint32_t face, int closure) {
-    size_t start = 0, count = 0;
-    if (daybook_row(book, words, 2, 0, face, &start, &count)) exit(1);
+    size_t start = 0, count = 0, position = 0;
+    uint32_t key = 0, number = daybook_row(book, words, 2, 0, face, &start, &count, &key, &position);
+    if (number) {
+        print_refusal(number, book, key, position);
+        exit(1);
+    }
     printf("face %u: %+d, vertices %u, %u and %u\n", (unsigned)face, closure, (unsigned)book[start], (unsigned)book[start + 1],
            (unsigned)book[start + 2]);
 }
 
-/* Prints the faces whose closure is -1 or +1, and then how many there are of each. */
+/* Prints the faces whose closure is -1 or +1, and then how many there are of each, or why the call was refused. */
 static uint32_t print_closures(size_t given, uint32_t edges, uint32_t faces) {
     int32_t *closures = calloc(faces + 1, sizeof *closures);
     double *steps = calloc(edges + 1, sizeof *steps);
     uint8_t *masked = calloc(edges + 1, 1);
     if (!closures || !steps || !masked) exit(2);
-    uint32_t of[4] = {0, 0, 0, 0}, apart = 0;
-    uint32_t number = daybook_closures(book, words, counts, given, closures, faces, steps, edges, masked, edges);
-    if (!number) {
+    uint32_t of[4] = {0, 0, 0, 0}, apart = 0, key = 0;
+    size_t position = 0;
+    uint32_t number = daybook_closures(book, words, counts, given, closures, faces, steps, edges, masked, edges, &key, &position);
+    if (number) {
+        print_refusal(number, book, key, position);
+    } else {
         for (uint32_t face = 0; face < faces; face++) {
             of[closures[face] + 1]++;
             if (closures[face] == -1 || closures[face] == 1) print_face(face, (int)closures[face]);
@@ -98,12 +106,15 @@ int main(int count, char **names) {
         printf("no faces: D is %u\n", (unsigned)D);
         return 1;
     }
-    if (!number && !numbers) {
+    if (number) {
+        printf("refused %u\n", (unsigned)number);
+        return 1;
+    }
+    if (!numbers) {
         printf("line %u of the phases is not a whole number\n", (unsigned)given + 1);
         return 1;
     }
-    if (!number) number = print_closures(given, book[2], D == 2 ? cells : book[3]);
-    if (number) printf("refused %u\n", (unsigned)number);
+    number = print_closures(given, book[2], D == 2 ? cells : book[3]);
     free(book);
     return number ? 1 : 0;
 }

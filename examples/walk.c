@@ -2,11 +2,12 @@
  *
  *     walk FILE
  *
- * Built with the two files that ./library leaves in a folder:
+ * Built with place.h beside it and the two files that ./library leaves in a folder:
  *
  *     cc -std=c99 -I FOLDER walk.c FOLDER/libdaybook.a -o walk
  */
 #include "daybook.h"
+#include "place.h"
 #include <stdio.h>
 #include <stdlib.h>
 
@@ -21,9 +22,13 @@ struct row {
 };
 
 static struct row row(uint32_t d, uint32_t e, uint32_t i) {
-    size_t start = 0, count = 0;
+    size_t start = 0, count = 0, position = 0;
+    uint32_t key = 0, number = daybook_row(book, words, d, e, i, &start, &count, &key, &position);
     struct row r;
-    if (daybook_row(book, words, d, e, i, &start, &count)) exit(1);
+    if (number) {
+        print_refusal(number, book, key, position);
+        exit(1);
+    }
     r.at = book + start;
     r.count = count;
     return r;

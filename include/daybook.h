@@ -25,8 +25,26 @@
  * filled by daybook_load again.
  *
  * THE RESULT of each call is 0 where it was accepted, else the number of the first refusal that
- * applies, in the order given at the call. A refusal alters nothing that you lent.
+ * applies, in the order given at the call. A refusal alters no book, file, list or buffer that you lent.
  * What an out pointer points to is written only where the text says so, and else left alone.
+ *
+ * WHERE THE BOOK IS BROKEN. With refusal 11, and only then, a call that has key and position writes both.
+ *
+ *   *key         4d+e: the relation d -> e is the first in the book that is broken; or DAYBOOK_FREE_WORDS:
+ *                no relation is broken, but a word from the used length on is not 0
+ *   *position    0 to N_d: this offset of the relation; above N_d: its index *position - N_d - 1, counted
+ *                from 0 through all its rows; with DAYBOOK_FREE_WORDS: the first word that is not 0, counted
+ *                from 0 at the used length, so that it is book[book[4] + *position]
+ *
+ * N_0 and N_D are in word 0, N_1 and N_2, where they are not N_D, in words 2 and 3. Counted from 0 at the relation's first word, the
+ * position is that of the word itself. Of all that is wrong in the relation the lowest position is given:
+ *
+ *   offset 0     is not 0
+ *   offset i     is below offset i - 1, or ends a row of d -> 0, d > 0, that has not d + 1 indices
+ *   index t      is not above the index before it in its row, is N_e or more, or begins a row of D -> 0 that
+ *                is equal to an earlier one
+ *
+ * daybook_row and daybook_find look at their row's own two offsets only, and say at the call which is meant.
  *
  * STACK, measured by painting it. daybook_make, daybook_ask and daybook_ask_list need up to 512 KiB
  * (417 KiB were measured), daybook_load up to 128 KiB (113), daybook_write, daybook_euler and
@@ -62,7 +80,7 @@ enum {
     DAYBOOK_VERTEX_TWICE = 8,      /* a cell names a vertex twice; the lowest such cell is given */
     DAYBOOK_BITS_AFTER = 9,        /* a bit after the last vertex is set */
     DAYBOOK_FRAME_BROKEN = 10,     /* the book's head words or the sizes of its relations break the frame rule */
-    DAYBOOK_ROWS_BROKEN = 11,      /* the book's offsets, indices or free words break the row rule, or two rows of D -> 0 are equal */
+    DAYBOOK_ROWS_BROKEN = 11,      /* the book's offsets, indices or free words break the row rule, or two rows of D -> 0 are equal; the place is given */
     DAYBOOK_DIMENSION_OVER = 12,   /* d or e is over D; for daybook_closures, D is 1 */
     DAYBOOK_NO_ROOM = 13,          /* the used length afterwards would pass the book's length */
     DAYBOOK_ALREADY_HELD = 14,     /* the relation is held already */
@@ -76,6 +94,9 @@ enum {
     DAYBOOK_COUNT_OUTSIDE = 22,    /* a count is neither from -32,768 to 32,767 nor DAYBOOK_MASKED */
     DAYBOOK_CELL_TWICE = 23        /* two cells of the file have the same vertices; the lowest that repeats an earlier one is given */
 };
+
+/* The key that stands for the free words, those from the used length on, where a place in the book is given. */
+#define DAYBOOK_FREE_WORDS 16
 
 /* The most pairs that daybook_ask_list takes. */
 #define DAYBOOK_MOST_PAIRS 16
@@ -115,42 +136,47 @@ enum {
 uint32_t daybook_load(const uint8_t *file, size_t file_len, uint32_t *book, size_t book_len, uint32_t *cell);
 
 /* Makes the relation d -> e from what the book stores and puts it at its place; everything that it is
- * made from has to be held. Refusals: 10, 11, 12, 14, 15, 13. */
-uint32_t daybook_make(uint32_t *book, size_t book_len, uint32_t d, uint32_t e);
+ * made from has to be held. Refusals: 10, 11 with *key and *position, 12, 14, 15, 13. */
+uint32_t daybook_make(uint32_t *book, size_t book_len, uint32_t d, uint32_t e, uint32_t *key, size_t *position);
 
 /* Makes the relation d -> e and, as far as missing, everything that it is made from, or nothing at
- * all. A relation that is held already is accepted, and no word changes. Refusals: 10, 11, 12, 13. */
-uint32_t daybook_ask(uint32_t *book, size_t book_len, uint32_t d, uint32_t e);
+ * all. A relation that is held already is accepted, and no word changes.
+ * Refusals: 10, 11 with *key and *position, 12, 13. */
+uint32_t daybook_ask(uint32_t *book, size_t book_len, uint32_t d, uint32_t e, uint32_t *key, size_t *position);
 
 /* Asks for several relations, one after another: book and answers are those of daybook_ask for each in turn.
  * pairs has two numbers for each, its d and its e, and answers gets one number for each in its place: 0 where
- * the ask was accepted, else its refusal, one of 10, 11, 12, 13. A refused ask does not stop the next, and the
- * call is accepted whatever its answers are; no pairs at all are accepted too. The book is checked once for
- * the whole list, so this takes less time than as many calls of daybook_ask.
+ * the ask was accepted, else its refusal, one of 10, 11, 12, 13; the place that goes with 11 is not given, and
+ * daybook_ask gives it. A refused ask does not stop the next, and the call is accepted whatever its answers
+ * are; no pairs at all are accepted too. The book is checked once for the whole list, so this takes less time
+ * than as many calls of daybook_ask.
  * Refusal: 20, before everything else, also where the book is broken; then the answers are left alone too. */
 uint32_t daybook_ask_list(uint32_t *book, size_t book_len, const uint32_t *pairs, size_t pairs_len, uint32_t *answers, size_t answers_len);
 
 /* Row i of d -> e: where accepted it is book[*start .. *start + *count], which may be empty.
- * Refusals: 10, 12, 16, 17, and 11 where the row's own two offsets are not first <= second <= last.
+ * Refusals: 10, 12, 16, 17, and 11 where the row's own two offsets are not first <= second <= last: then *key
+ * is 4d+e, and *position is i where the first is above the last, else i + 1.
  * The cost does not depend on the book's size. */
-uint32_t daybook_row(const uint32_t *book, size_t book_len, uint32_t d, uint32_t e, uint32_t i, size_t *start, size_t *count);
+uint32_t daybook_row(const uint32_t *book, size_t book_len, uint32_t d, uint32_t e, uint32_t i, size_t *start, size_t *count, uint32_t *key,
+                     size_t *position);
 
 /* Whether j is in row i of d -> e: where accepted, *yes is 1 or 0 and *read how many of the row's indices
  * were read. The row is searched from its front, up to the first index that is not below j: *read counts
  * the leading ones, those below j, and the one after them, if there is one; yes means that this one is j.
  * In a row that ascends that is what reading the whole row would say.
- * Refusals: as daybook_row (10, 12, 16, 17, 11), then 19 where j is N_e or more.
+ * Refusals: as daybook_row (10, 12, 16, 17, 11 with its *key and *position), then 19 where j is N_e or more.
  * The cost does not depend on the book's size, but for the indices read. */
-uint32_t daybook_find(const uint32_t *book, size_t book_len, uint32_t d, uint32_t e, uint32_t i, uint32_t j, uint32_t *yes, size_t *read);
+uint32_t daybook_find(const uint32_t *book, size_t book_len, uint32_t d, uint32_t e, uint32_t i, uint32_t j, uint32_t *yes, size_t *read,
+                      uint32_t *key, size_t *position);
 
 /* Writes the day file of the book's mesh, each cell's vertices ascending, and its length to
- * *length where accepted. Later bytes stay as they were. Refusals: 10, 11, 18. */
-uint32_t daybook_write(const uint32_t *book, size_t book_len, uint8_t *bytes, size_t bytes_len, size_t *length);
+ * *length where accepted. Later bytes stay as they were. Refusals: 10, 11 with *key and *position, 18. */
+uint32_t daybook_write(const uint32_t *book, size_t book_len, uint8_t *bytes, size_t bytes_len, size_t *length, uint32_t *key, size_t *position);
 
 /* Writes the Euler number to *number where accepted: N_0 - N_1, N_0 - N_1 + N_2 or
  * N_0 - N_1 + N_2 - N_3 for D = 1, 2 or 3. Needs d -> 0 for every 0 < d < D.
- * Refusals: 10, 11, 15. */
-uint32_t daybook_euler(const uint32_t *book, size_t book_len, int64_t *number);
+ * Refusals: 10, 11 with *key and *position, 15. */
+uint32_t daybook_euler(const uint32_t *book, size_t book_len, int64_t *number, uint32_t *key, size_t *position);
 
 /* Writes the number of relations held to *count where accepted. Refusal: 10. */
 uint32_t daybook_held_count(const uint32_t *book, size_t book_len, uint32_t *count);
@@ -167,9 +193,10 @@ uint32_t daybook_held_count(const uint32_t *book, size_t book_len, uint32_t *cou
  *
  * counts has to be N_0 long, closures N_2, steps and masked N_1. Where the call is accepted each place of the
  * three lists is written, else none. Needs 1 -> 0 and 2 -> 0.
- * Refusals: 10, 11, 12 where D is 1, 15, 21, 22. */
+ * Refusals: 10, 11 with *key and *position, 12 where D is 1, 15, 21, 22. */
 uint32_t daybook_closures(const uint32_t *book, size_t book_len, const int32_t *counts, size_t counts_len,
-                          int32_t *closures, size_t closures_len, double *steps, size_t steps_len, uint8_t *masked, size_t masked_len);
+                          int32_t *closures, size_t closures_len, double *steps, size_t steps_len, uint8_t *masked, size_t masked_len,
+                          uint32_t *key, size_t *position);
 
 #ifdef __cplusplus
 }

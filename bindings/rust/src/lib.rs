@@ -18,13 +18,42 @@ use std::fmt;
 mod c {
     extern "C" {
         pub fn daybook_load(file: *const u8, file_len: usize, book: *mut u32, book_len: usize, cell: *mut u32) -> u32;
-        pub fn daybook_make(book: *mut u32, book_len: usize, d: u32, e: u32) -> u32;
-        pub fn daybook_ask(book: *mut u32, book_len: usize, d: u32, e: u32) -> u32;
+        pub fn daybook_make(book: *mut u32, book_len: usize, d: u32, e: u32, key: *mut u32, position: *mut usize) -> u32;
+        pub fn daybook_ask(book: *mut u32, book_len: usize, d: u32, e: u32, key: *mut u32, position: *mut usize) -> u32;
         pub fn daybook_ask_list(book: *mut u32, book_len: usize, pairs: *const u32, pairs_len: usize, answers: *mut u32, answers_len: usize) -> u32;
-        pub fn daybook_row(book: *const u32, book_len: usize, d: u32, e: u32, i: u32, start: *mut usize, count: *mut usize) -> u32;
-        pub fn daybook_find(book: *const u32, book_len: usize, d: u32, e: u32, i: u32, j: u32, yes: *mut u32, read: *mut usize) -> u32;
-        pub fn daybook_write(book: *const u32, book_len: usize, bytes: *mut u8, bytes_len: usize, length: *mut usize) -> u32;
-        pub fn daybook_euler(book: *const u32, book_len: usize, number: *mut i64) -> u32;
+        pub fn daybook_row(
+            book: *const u32,
+            book_len: usize,
+            d: u32,
+            e: u32,
+            i: u32,
+            start: *mut usize,
+            count: *mut usize,
+            key: *mut u32,
+            position: *mut usize,
+        ) -> u32;
+        pub fn daybook_find(
+            book: *const u32,
+            book_len: usize,
+            d: u32,
+            e: u32,
+            i: u32,
+            j: u32,
+            yes: *mut u32,
+            read: *mut usize,
+            key: *mut u32,
+            position: *mut usize,
+        ) -> u32;
+        pub fn daybook_write(
+            book: *const u32,
+            book_len: usize,
+            bytes: *mut u8,
+            bytes_len: usize,
+            length: *mut usize,
+            key: *mut u32,
+            position: *mut usize,
+        ) -> u32;
+        pub fn daybook_euler(book: *const u32, book_len: usize, number: *mut i64, key: *mut u32, position: *mut usize) -> u32;
         pub fn daybook_held_count(book: *const u32, book_len: usize, count: *mut u32) -> u32;
         pub fn daybook_closures(
             book: *const u32,
@@ -37,7 +66,50 @@ mod c {
             steps_len: usize,
             masked: *mut u8,
             masked_len: usize,
+            key: *mut u32,
+            position: *mut usize,
         ) -> u32;
+    }
+}
+
+/// The key of the free words, those from the used length on.
+pub const FREE_WORDS: u32 = 16;
+
+/// A word of a book, as `Refusal::RowsBroken` names it.
+#[derive(Clone, Copy, Debug, PartialEq, Eq, Hash)]
+pub enum Position {
+    /// This offset of the relation, 0 to N_d.
+    Offset(usize),
+    /// This index of the relation, counted from 0 through all its rows.
+    Index(usize),
+    /// This word behind the used length, counted from 0 there.
+    FreeWord(usize),
+}
+
+impl Position {
+    /// What the library's number means in this book: of a relation d→e it counts N_d + 1 offsets, and then the indices.
+    fn of(book: &[u32], key: u32, number: usize) -> Position {
+        let (head, d) = (book[0], key / 4);
+        let last_offset = match d {
+            _ if key == FREE_WORDS => return Position::FreeWord(number),
+            0 => head >> 16 & 0x3FFF,
+            _ if d == head >> 30 => head >> 3 & 0x1FFF,
+            _ => book[1 + d as usize],
+        } as usize;
+        match number.checked_sub(last_offset + 1) {
+            None => Position::Offset(number),
+            Some(index) => Position::Index(index),
+        }
+    }
+}
+
+impl fmt::Display for Position {
+    fn fmt(&self, out: &mut fmt::Formatter<'_>) -> fmt::Result {
+        match self {
+            Position::Offset(at) => write!(out, "offset {at}"),
+            Position::Index(at) => write!(out, "index {at}"),
+            Position::FreeWord(at) => write!(out, "free word {at}"),
+        }
     }
 }
 
@@ -64,8 +136,12 @@ pub enum Refusal {
     BitsAfter,
     /// 10: the book's head words or the sizes of its relations break the frame rule.
     FrameBroken,
-    /// 11: the book's offsets, indices or free words break the row rule, or two rows of D→0 are equal.
-    RowsBroken,
+    /// 11: the book's offsets, indices or free words break the row rule, or two rows of D→0 are equal. The first broken relation
+    /// has the key 4d+e, and `position` is the lowest in it; for `row` and `find` it is one of the row's own two offsets. Where
+    /// only a free word is wrong, the key is `FREE_WORDS`.
+    RowsBroken { key: u32, position: Position },
+    /// 11 among the answers of `ask_list`, which do not say where; `ask` does.
+    RowsBrokenSomewhere,
     /// 12: d or e is over D; for `closures`, D is 1.
     DimensionOver,
     /// 13: the used length afterwards would pass the book's length.
@@ -106,7 +182,7 @@ impl Refusal {
             Refusal::VertexTwice(_) => 8,
             Refusal::BitsAfter => 9,
             Refusal::FrameBroken => 10,
-            Refusal::RowsBroken => 11,
+            Refusal::RowsBroken { .. } | Refusal::RowsBrokenSomewhere => 11,
             Refusal::DimensionOver => 12,
             Refusal::NoRoom => 13,
             Refusal::AlreadyHeld => 14,
@@ -127,6 +203,8 @@ impl fmt::Display for Refusal {
     fn fmt(&self, out: &mut fmt::Formatter<'_>) -> fmt::Result {
         match self {
             Refusal::VertexOut(cell) | Refusal::VertexTwice(cell) | Refusal::CellTwice(cell) => write!(out, "refused {}, cell {}", self.number(), cell),
+            Refusal::RowsBroken { key: FREE_WORDS, position } => write!(out, "refused 11, {position}"),
+            Refusal::RowsBroken { key, position } => write!(out, "refused 11, relation {}→{}, {position}", key / 4, key % 4),
             _ => write!(out, "refused {}", self.number()),
         }
     }
@@ -134,7 +212,7 @@ impl fmt::Display for Refusal {
 
 impl std::error::Error for Refusal {}
 
-/// What a call's number means: accepted with `value`, or a refusal, with 7, 8 and 23 of `cell`.
+/// What a call's number means: accepted with `value`, or a refusal, with 7, 8 and 23 of `cell`, with 11 of no known place.
 fn answer<T>(number: u32, cell: u32, value: T) -> Result<T, Refusal> {
     Err(match number {
         0 => return Ok(value),
@@ -148,7 +226,7 @@ fn answer<T>(number: u32, cell: u32, value: T) -> Result<T, Refusal> {
         8 => Refusal::VertexTwice(cell),
         9 => Refusal::BitsAfter,
         10 => Refusal::FrameBroken,
-        11 => Refusal::RowsBroken,
+        11 => Refusal::RowsBrokenSomewhere,
         12 => Refusal::DimensionOver,
         13 => Refusal::NoRoom,
         14 => Refusal::AlreadyHeld,
@@ -165,6 +243,23 @@ fn answer<T>(number: u32, cell: u32, value: T) -> Result<T, Refusal> {
     })
 }
 
+/// The places for a key and a position, which a call writes with 11.
+#[derive(Default)]
+struct Place {
+    key: u32,
+    position: usize,
+}
+
+impl Place {
+    /// What the number of a call on this book means, with 11 of this place.
+    fn answer<T>(self, book: &[u32], number: u32, value: T) -> Result<T, Refusal> {
+        match number {
+            11 => Err(Refusal::RowsBroken { key: self.key, position: Position::of(book, self.key, self.position) }),
+            _ => answer(number, 0, value),
+        }
+    }
+}
+
 /// Loads a day file: every word of the book is set, and D→0 alone is held.
 pub fn load(file: &[u8], book: &mut [u32]) -> Result<(), Refusal> {
     let mut cell = 0;
@@ -175,16 +270,18 @@ pub fn load(file: &[u8], book: &mut [u32]) -> Result<(), Refusal> {
 
 /// Makes d→e from what the book stores; everything that it is made from has to be held.
 pub fn make(book: &mut [u32], d: u32, e: u32) -> Result<(), Refusal> {
+    let mut place = Place::default();
     // SAFETY: as in `load`.
-    let number = unsafe { c::daybook_make(book.as_mut_ptr(), book.len(), d, e) };
-    answer(number, 0, ())
+    let number = unsafe { c::daybook_make(book.as_mut_ptr(), book.len(), d, e, &mut place.key, &mut place.position) };
+    place.answer(book, number, ())
 }
 
 /// Makes d→e and, as far as missing, everything that it is made from, or nothing at all.
 pub fn ask(book: &mut [u32], d: u32, e: u32) -> Result<(), Refusal> {
+    let mut place = Place::default();
     // SAFETY: as in `load`.
-    let number = unsafe { c::daybook_ask(book.as_mut_ptr(), book.len(), d, e) };
-    answer(number, 0, ())
+    let number = unsafe { c::daybook_ask(book.as_mut_ptr(), book.len(), d, e, &mut place.key, &mut place.position) };
+    place.answer(book, number, ())
 }
 
 /// The most pairs that `ask_list` takes.
@@ -192,7 +289,8 @@ pub const MOST_PAIRS: usize = 16;
 
 /// Asks for each pair (d, e) in turn, as `ask` does, and writes what came of it in its place among the answers; a refused ask
 /// does not stop the next, and the list is accepted all the same. The book is checked once, so a list takes less time than its
-/// asks one by one. Where the list itself is refused, with `PairsOff`, neither the book nor the answers are altered.
+/// asks one by one. Where the list itself is refused, with `PairsOff`, neither the book nor the answers are altered. The answers
+/// do not say where a book is broken: their 11 is `RowsBrokenSomewhere`.
 ///
 /// ```no_run
 /// # let mut book = vec![0; 500];
@@ -219,10 +317,10 @@ pub fn ask_list(book: &mut [u32], pairs: &[(u32, u32)], answers: &mut [Result<()
 
 /// Row i of d→e: the part of the book itself, ascending.
 pub fn row(book: &[u32], d: u32, e: u32, i: u32) -> Result<&[u32], Refusal> {
-    let (mut start, mut count) = (0, 0);
+    let (mut start, mut count, mut place) = (0, 0, Place::default());
     // SAFETY: as in `load`.
-    let number = unsafe { c::daybook_row(book.as_ptr(), book.len(), d, e, i, &mut start, &mut count) };
-    answer(number, 0, ())?;
+    let number = unsafe { c::daybook_row(book.as_ptr(), book.len(), d, e, i, &mut start, &mut count, &mut place.key, &mut place.position) };
+    place.answer(book, number, ())?;
     Ok(&book[start..start + count])
 }
 
@@ -237,26 +335,27 @@ pub struct Found {
 
 /// Whether j is in row i of d→e: the row is searched from its front, up to the first index that is not below j.
 pub fn find(book: &[u32], d: u32, e: u32, i: u32, j: u32) -> Result<Found, Refusal> {
-    let (mut yes, mut read) = (0, 0);
+    let (mut yes, mut read, mut place) = (0, 0, Place::default());
     // SAFETY: as in `load`.
-    let number = unsafe { c::daybook_find(book.as_ptr(), book.len(), d, e, i, j, &mut yes, &mut read) };
-    answer(number, 0, Found { yes: yes == 1, read })
+    let number = unsafe { c::daybook_find(book.as_ptr(), book.len(), d, e, i, j, &mut yes, &mut read, &mut place.key, &mut place.position) };
+    place.answer(book, number, Found { yes: yes == 1, read })
 }
 
 /// Writes the day file of the book's mesh and gives its length; later bytes stay as they were.
 pub fn write(book: &[u32], bytes: &mut [u8]) -> Result<usize, Refusal> {
-    let mut length = 0;
+    let (mut length, mut place) = (0, Place::default());
     // SAFETY: as in `load`.
-    let number = unsafe { c::daybook_write(book.as_ptr(), book.len(), bytes.as_mut_ptr(), bytes.len(), &mut length) };
-    answer(number, 0, length)
+    let number =
+        unsafe { c::daybook_write(book.as_ptr(), book.len(), bytes.as_mut_ptr(), bytes.len(), &mut length, &mut place.key, &mut place.position) };
+    place.answer(book, number, length)
 }
 
 /// The Euler number; d→0 has to be held for every 0 < d < D.
 pub fn euler(book: &[u32]) -> Result<i64, Refusal> {
-    let mut value = 0;
+    let (mut value, mut place) = (0, Place::default());
     // SAFETY: as in `load`.
-    let number = unsafe { c::daybook_euler(book.as_ptr(), book.len(), &mut value) };
-    answer(number, 0, value)
+    let number = unsafe { c::daybook_euler(book.as_ptr(), book.len(), &mut value, &mut place.key, &mut place.position) };
+    place.answer(book, number, value)
 }
 
 /// How many relations are held.
@@ -322,6 +421,7 @@ impl Step {
 /// # Ok::<(), daybook::Refusal>(())
 /// ```
 pub fn closures(book: &[u32], counts: &[i32], closures: &mut [i32], steps: &mut [f64], masked: &mut [u8]) -> Result<(), Refusal> {
+    let mut place = Place::default();
     // SAFETY: as in `load`.
     let number = unsafe {
         c::daybook_closures(
@@ -335,9 +435,11 @@ pub fn closures(book: &[u32], counts: &[i32], closures: &mut [i32], steps: &mut 
             steps.len(),
             masked.as_mut_ptr(),
             masked.len(),
+            &mut place.key,
+            &mut place.position,
         )
     };
-    answer(number, 0, ())
+    place.answer(book, number, ())
 }
 
 /// At most so many entities of dimension 1, 2 and 3, as if no two cells shared one.

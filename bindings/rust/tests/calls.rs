@@ -1,5 +1,5 @@
 //! The paper's examples and each refusal, through the safe calls.
-use daybook::{Found, Reading, Refusal, Step, CLOSURE_MASKED, MASKED, MOST_PAIRS};
+use daybook::{Found, Position, Reading, Refusal, Step, CLOSURE_MASKED, FREE_WORDS, MASKED, MOST_PAIRS};
 
 /// The two triangles {0, 1, 3} and {1, 2, 3}.
 const T: [u8; 14] = [0x80, 0x04, 0x00, 0x10, 0x00, 0x00, 0x00, 0x40, 0x06, 0x00, 0x10, 0x01, 0x00, 0x0C];
@@ -43,8 +43,8 @@ fn a_list_is_one_ask_after_another() {
     assert_eq!(book, alone);
     assert_eq!(daybook::ask_list(&mut book, &[], &mut []), Ok(()));
     assert_eq!(daybook::ask_list(&mut book, &[(2, 1); MOST_PAIRS], &mut [Err(Refusal::NotHeld); MOST_PAIRS]), Ok(()));
-    for broken in [Refusal::RowsBroken, Refusal::FrameBroken] {
-        book[if broken == Refusal::RowsBroken { 53 } else { 0 }] = 9;
+    for (broken, word) in [(Refusal::RowsBrokenSomewhere, 53), (Refusal::FrameBroken, 0)] {
+        book[word] = 9;
         assert_eq!(daybook::ask_list(&mut book, &[(9, 9), (2, 1)], &mut answers[..2]), Ok(()));
         assert_eq!(answers, [Err(broken), Err(broken), Ok(())]);
     }
@@ -85,7 +85,7 @@ fn a_search_reads_no_further_than_it_needs() {
     assert_eq!(daybook::find(&book, 0, 1, 4, 5), Err(Refusal::NoSuchEntity));
     assert_eq!(daybook::find(&book, 3, 0, 0, 0), Err(Refusal::DimensionOver));
     book[7] = 1;
-    assert_eq!(daybook::find(&book, 0, 1, 1, 3), Err(Refusal::RowsBroken));
+    assert_eq!(daybook::find(&book, 0, 1, 1, 3), Err(Refusal::RowsBroken { key: 1, position: Position::Offset(2) }));
     assert_eq!(daybook::find(&[], 0, 1, 1, 3), Err(Refusal::FrameBroken));
 }
 
@@ -176,22 +176,70 @@ fn books_and_numbers_are_refused() {
     assert_eq!(daybook::write(&book, &mut [0; 13]), Err(Refusal::BufferTooShort));
     assert_eq!(daybook::euler(&loaded(20)), Err(Refusal::NeedMissing));
     book[199] = 1;
-    assert_eq!(daybook::ask(&mut book, 1, 1), Err(Refusal::RowsBroken));
+    assert_eq!(daybook::ask(&mut book, 1, 1), Err(Refusal::RowsBroken { key: FREE_WORDS, position: Position::FreeWord(169) }));
     book[4] = 0;
     assert_eq!(daybook::held_count(&book), Err(Refusal::FrameBroken));
     assert_eq!(daybook::held_count(&[]), Err(Refusal::FrameBroken));
     assert_eq!(Refusal::VertexOut(3).to_string(), "refused 7, cell 3");
 }
 
+/// T with all nine relations and three free words, and this word changed. 0→0 begins at word 5, 1→0 at 46, 1→2 at 84, 2→0 at 96.
+fn broken(at: usize, word: u32) -> Vec<u32> {
+    let mut book = loaded(122);
+    (0..9).try_for_each(|k| daybook::ask(&mut book, k / 3, k % 3)).unwrap();
+    book[at] = word;
+    book
+}
+
+#[test]
+fn a_refusal_says_where_the_book_is_broken() {
+    for (at, word, key, position, text) in [
+        (5, 1, 0, Position::Offset(0), "refused 11, relation 0→0, offset 0"),
+        (8, 11, 0, Position::Offset(4), "refused 11, relation 0→0, offset 4"),
+        (10, 4, 0, Position::Index(0), "refused 11, relation 0→0, index 0"),
+        (48, 3, 4, Position::Offset(2), "refused 11, relation 1→0, offset 2"),
+        (61, 4, 4, Position::Index(9), "refused 11, relation 1→0, index 9"),
+        (88, 7, 6, Position::Offset(5), "refused 11, relation 1→2, offset 5"),
+        (93, 0, 6, Position::Index(3), "refused 11, relation 1→2, index 3"),
+        (97, 2, 8, Position::Offset(1), "refused 11, relation 2→0, offset 1"),
+        (104, 2, 8, Position::Index(5), "refused 11, relation 2→0, index 5"),
+        (119, 1, FREE_WORDS, Position::FreeWord(0), "refused 11, free word 0"),
+        (121, 1, FREE_WORDS, Position::FreeWord(2), "refused 11, free word 2"),
+    ] {
+        let mut book = broken(at, word);
+        let refusal = Refusal::RowsBroken { key, position };
+        assert_eq!(daybook::make(&mut book, 9, 9), Err(refusal));
+        assert_eq!(daybook::ask(&mut book, 2, 0), Err(refusal));
+        assert_eq!(daybook::write(&book, &mut []), Err(refusal));
+        assert_eq!(daybook::euler(&book), Err(refusal));
+        assert_eq!(daybook::closures(&book, &[], &mut [], &mut [], &mut []), Err(refusal));
+        assert_eq!(refusal.to_string(), text);
+    }
+}
+
+#[test]
+fn a_row_says_which_of_its_offsets_is_broken() {
+    for (word, i, at) in [(7, 0, 1), (7, 1, 1), (3, 1, 2)] {
+        let book = broken(85, word);
+        let refusal = Refusal::RowsBroken { key: 6, position: Position::Offset(at) };
+        assert_eq!(daybook::row(&book, 1, 2, i), Err(refusal));
+        assert_eq!(daybook::find(&book, 1, 2, i, 9), Err(refusal));
+        assert_eq!(daybook::row(&book, 1, 2, 2), Ok(&[0, 1][..]));
+    }
+}
+
 #[test]
 fn numbers_are_the_papers() {
     let all = [
         Refusal::FileTooShort, Refusal::NoDimension, Refusal::ManyVertices, Refusal::ManyCells, Refusal::SpareBits, Refusal::FileLength,
-        Refusal::VertexOut(0), Refusal::VertexTwice(0), Refusal::BitsAfter, Refusal::FrameBroken, Refusal::RowsBroken, Refusal::DimensionOver,
-        Refusal::NoRoom, Refusal::AlreadyHeld, Refusal::NeedMissing, Refusal::NotHeld, Refusal::NoSuchEntity, Refusal::BufferTooShort,
+        Refusal::VertexOut(0), Refusal::VertexTwice(0), Refusal::BitsAfter, Refusal::FrameBroken,
+        Refusal::RowsBroken { key: 0, position: Position::Offset(0) }, Refusal::DimensionOver, Refusal::NoRoom, Refusal::AlreadyHeld,
+        Refusal::NeedMissing, Refusal::NotHeld, Refusal::NoSuchEntity, Refusal::BufferTooShort,
         Refusal::NoSuchIndex, Refusal::PairsOff, Refusal::ListLength, Refusal::CountOutside, Refusal::CellTwice(0),
     ];
     assert!(all.iter().map(|r| r.number()).eq(1..=23));
+    assert_eq!(Refusal::RowsBrokenSomewhere.number(), 11);
+    assert_eq!(Refusal::RowsBrokenSomewhere.to_string(), "refused 11");
 }
 
 #[test]

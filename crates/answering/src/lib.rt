@@ -23,7 +23,9 @@ fn ask_key(book: &mut [u32], top: u32, k: u32) -> u32
     if k % 4 > top {
         return 0;
     }
-    daybook_ask(book, k / 4, k % 4)
+    let mut key: u32 = 0;
+    let mut position: usize = 0;
+    daybook_ask(book, k / 4, k % 4, &mut key, &mut position)
 }
 
 // Asks for all relations by ascending key, up to the first that is refused. Gives its number, or 0.

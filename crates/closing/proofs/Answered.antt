@@ -1,19 +1,27 @@
--- The call's number, test by test, and what an accepted call has passed.
+-- The call's number and what comes with it, test by test, and what an accepted call has passed.
 use mathlib.Core.Path.{_≡_, sym, _∙_}
 use mathlib.Core.Bool.{true, false}
 use mathlib.Core.List.{List}
+use mathlib.Core.Option.{none, some}
 use Prim.Native.Nat.{ℕ}
 use lib.ListN.{length}
+use lib.Dec.{eqb}
 use lib.IntN.{ℤ}
 use lib.Ieee.{Float}
 use borrow.Author.Tests.{ne-eqb, eq-eqb}
 use Rattle.rules.specs.Lists.{allOf}
 use Rattle.rules.specs.Book.{dim, key, held, frameRight, rowsRight}
+use Rattle.rules.specs.Broken.{brokenAt, told}
 use Rattle.rules.specs.Calls.{firstBroken}
 use Rattle.rules.specs.Phases.{counted}
 use Rattle.rules.specs.Closures.{lengthsRight, closeRules, closeNumber, acceptedFor, closuresOf, stepsOf, bytesOf, closuresAfter, stepsAfter, bytesAfter}
 use Rattle.rules.proofs.Accepted.{closes}
+use Rattle.rules.proofs.Told.{some-wrong, told-eleven, untold-as}
 use Rattle.closing.specs.Answers.{Ready}
+
+-- with a number that is not 11 nothing comes
+pub bare : {m : ℕ} (ws : List ℕ) (n : ℕ) → eqb n 11 ≡ false → n ≡ m → (n ≡ m) × (none ≡ told m (brokenAt ws))
+bare ws n x e = (e, untold-as n _ _ x e)
 
 module _ (ws : List ℕ) (counts : List ℤ) (a b d : ℕ) where
   pub ten : frameRight ws ≡ false → 10 ≡ closeNumber ws counts a b d
@@ -21,9 +29,13 @@ module _ (ws : List ℕ) (counts : List ℤ) (a b d : ℕ) where
   ten f = rw f
 
   module _ (f : frameRight ws ≡ true) where
-    pub eleven : rowsRight ws ≡ false → 11 ≡ closeNumber ws counts a b d
+    number-eleven : rowsRight ws ≡ false → 11 ≡ closeNumber ws counts a b d
     unfolding closeNumber closeRules firstBroken
-    eleven r = rw (f, r)
+    number-eleven r = rw (f, r)
+
+    -- with the place that was found
+    pub eleven : (at : ℕ × ℕ) → some at ≡ brokenAt ws → (11 ≡ closeNumber ws counts a b d) × (some at ≡ told (closeNumber ws counts a b d) (brokenAt ws))
+    eleven at e = let n = number-eleven (some-wrong ws f at (sym e)) in (n, e ∙ told-eleven _ _ n)
 
     module _ (r : rowsRight ws ≡ true) where
       pub twelve : dim ws ≡ 1 → 12 ≡ closeNumber ws counts a b d
@@ -50,9 +62,9 @@ module _ (ws : List ℕ) (counts : List ℤ) (a b d : ℕ) where
               unfolding closeNumber closeRules firstBroken key
               twenty-two c = rw (f, r, ne-eqb (dim ws) 1 n, h, g, l, c)
 
-              pub none : allOf counted counts ≡ true → 0 ≡ closeNumber ws counts a b d
+              pub accepted : allOf counted counts ≡ true → 0 ≡ closeNumber ws counts a b d
               unfolding closeNumber closeRules firstBroken key
-              none c = rw (f, r, ne-eqb (dim ws) 1 n, h, g, l, c)
+              accepted c = rw (f, r, ne-eqb (dim ws) 1 n, h, g, l, c)
 
   -- an accepted call has passed all tests
   pub record Passed : Type 0 where

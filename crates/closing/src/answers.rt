@@ -1,4 +1,5 @@
 // What the call answers: accepted, or one of its refusals.
+use rows::Broken;
 ghost use mathlib.Core.Path.{_≡_};
 ghost use Rattle.closing.specs.Answers.{closedNumber};
 
@@ -6,7 +7,7 @@ ghost use Rattle.closing.specs.Answers.{closedNumber};
 pub enum Closed {
     Accepted,
     FrameBroken,
-    RowsBroken,
+    RowsBroken(Broken),
     OneDimension,
     NeedMissing,
     ListLength,
@@ -20,7 +21,7 @@ pub fn closed_number(answer: Closed) -> u32
     match answer {
         Closed::Accepted => 0,
         Closed::FrameBroken => 10,
-        Closed::RowsBroken => 11,
+        Closed::RowsBroken(_) => 11,
         Closed::OneDimension => 12,
         Closed::NeedMissing => 15,
         Closed::ListLength => 21,

@@ -3,13 +3,15 @@ mod answers;
 
 pub use answers::Closed;
 pub use answers::closed_number;
+use rows::Rows;
 ghost use mathlib.Core.Path.{_≡_};
 ghost use mathlib.Core.Bool.{true};
 ghost use lib.ListN.{length};
 ghost use Rattle.rules.specs.Lists.{allOf};
+ghost use Rattle.rules.specs.Broken.{brokenAt, told};
 ghost use Rattle.rules.specs.Phases.{counted};
 ghost use Rattle.rules.specs.Closures.{stepsOf, bytesOf, closuresOf, lengthsRight, closeNumber, closuresAfter, stepsAfter, bytesAfter};
-ghost use Rattle.closing.specs.Answers.{closedNumber, Ready};
+ghost use Rattle.closing.specs.Answers.{closedNumber, closedPlace, Ready};
 
 // Whether a count may be lent: −32,768 to 32,767, or 65,536.
 fn may_be_lent(count: i32) -> bool
@@ -81,13 +83,14 @@ fn lengths_right(book: &[u32], counts: &[i32], closures: usize, steps: usize, by
 
 // What the call answers for lists of these lengths. Refusals: 10, 11, 12, 15, 21, 22.
 fn answer(book: &[u32], counts: &[i32], closures: usize, steps: usize, bytes: usize) -> Closed
-    ensures { λ r. ⌜ closedNumber r ≡ closeNumber (now (book .entry)) (now (counts .entry)) closures steps bytes ⌝ }
+    ensures number { λ r. ⌜ closedNumber r ≡ closeNumber (now (book .entry)) (now (counts .entry)) closures steps bytes ⌝ }
+    ensures place { λ r. ⌜ closedPlace r ≡ told (closeNumber (now (book .entry)) (now (counts .entry)) closures steps bytes) (brokenAt (now (book .entry))) ⌝ }
 {
     if !frame::frame_right(book) {
         return Closed::FrameBroken;
     }
-    if !rows::rows_right(book) {
-        return Closed::RowsBroken;
+    if let Rows::BrokenAt(place) = rows::broken_at(book) {
+        return Closed::RowsBroken(place);
     }
     if book::dim(book) == 1 {
         return Closed::OneDimension;
@@ -118,6 +121,7 @@ pub fn close(
     bytes: &mut [u8],
 ) -> Closed
     ensures number { λ r. ⌜ closedNumber r ≡ closeNumber (now (book .entry)) (now (counts .entry)) (length (now (closures .entry))) (length (now (steps .entry))) (length (now (bytes .entry))) ⌝ }
+    ensures place { λ r. ⌜ closedPlace r ≡ told (closeNumber (now (book .entry)) (now (counts .entry)) (length (now (closures .entry))) (length (now (steps .entry))) (length (now (bytes .entry)))) (brokenAt (now (book .entry))) ⌝ }
     ensures closures { λ _. ⌜ now (closures .exit) ≡ closuresAfter (now (book .entry)) (now (counts .entry)) (now (closures .entry)) (now (steps .entry)) (now (bytes .entry)) ⌝ }
     ensures steps { λ _. ⌜ now (steps .exit) ≡ stepsAfter (now (book .entry)) (now (counts .entry)) (now (closures .entry)) (now (steps .entry)) (now (bytes .entry)) ⌝ }
     ensures bytes { λ _. ⌜ now (bytes .exit) ≡ bytesAfter (now (book .entry)) (now (counts .entry)) (now (closures .entry)) (now (steps .entry)) (now (bytes .entry)) ⌝ }

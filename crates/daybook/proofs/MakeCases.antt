@@ -1,4 +1,4 @@
--- Make and Ask, case by case: which rule is broken first, and the words.
+-- Make and Ask, case by case: which rule is broken first, the words, and the place that is told.
 use mathlib.Core.Path.{_≡_, sym, _∙_}
 use mathlib.Core.Bool.{Bool, true, false, cond}
 use mathlib.Core.List.{List}

@@ -1,5 +1,7 @@
--- What the answers of Make, Ask and a list of asks mean: the paper's number, 0 where accepted.
+-- What the answers of Make, Ask and a list of asks mean: the paper's number, 0 where accepted, and the place that comes with 11.
+use mathlib.Core.Option.{Option, none}
 use Prim.Native.Nat.{ℕ}
+use Rattle.rows.specs.Answers.{placed}
 use Rattle.daybook.specs.declared.answers.Made.{Made}
 use Rattle.daybook.specs.declared.answers.Made.the-variants as makes
 use Rattle.daybook.specs.declared.answers.Asked.{Asked}
@@ -12,20 +14,38 @@ use Rattle.daybook.specs.declared.answers.Listed.the-variants as lists
 unfoldable pub madeNumber : Made → ℕ
 madeNumber makes.Accepted = 0
 madeNumber makes.FrameBroken = 10
-madeNumber makes.RowsBroken = 11
+madeNumber (makes.RowsBroken b) = 11
 madeNumber makes.DimensionOver = 12
 madeNumber makes.NoRoom = 13
 madeNumber makes.AlreadyHeld = 14
 madeNumber makes.NeedMissing = 15
+
+-- the place that it carries
+unfoldable pub madePlace : Made → Option (ℕ × ℕ)
+madePlace makes.Accepted = none
+madePlace makes.FrameBroken = none
+madePlace (makes.RowsBroken b) = placed b
+madePlace makes.DimensionOver = none
+madePlace makes.NoRoom = none
+madePlace makes.AlreadyHeld = none
+madePlace makes.NeedMissing = none
 
 -- ==== Ask
 -- the number of an answer of Ask
 unfoldable pub askedNumber : Asked → ℕ
 askedNumber asks.Accepted = 0
 askedNumber asks.FrameBroken = 10
-askedNumber asks.RowsBroken = 11
+askedNumber (asks.RowsBroken b) = 11
 askedNumber asks.DimensionOver = 12
 askedNumber asks.NoRoom = 13
+
+-- the place that it carries
+unfoldable pub askedPlace : Asked → Option (ℕ × ℕ)
+askedPlace asks.Accepted = none
+askedPlace asks.FrameBroken = none
+askedPlace (asks.RowsBroken b) = placed b
+askedPlace asks.DimensionOver = none
+askedPlace asks.NoRoom = none
 
 -- ==== "A list of asks"
 -- the number of an answer of a list of asks

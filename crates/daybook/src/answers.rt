@@ -1,4 +1,5 @@
 // What Make, Ask and a list of asks answer: accepted, or one of their refusals.
+use rows::Broken;
 ghost use mathlib.Core.Path.{_≡_};
 ghost use Rattle.daybook.specs.Answers.{askedNumber};
 
@@ -6,7 +7,7 @@ ghost use Rattle.daybook.specs.Answers.{askedNumber};
 pub enum Made {
     Accepted,
     FrameBroken,
-    RowsBroken,
+    RowsBroken(Broken),
     DimensionOver,
     AlreadyHeld,
     NeedMissing,
@@ -17,7 +18,7 @@ pub enum Made {
 pub enum Asked {
     Accepted,
     FrameBroken,
-    RowsBroken,
+    RowsBroken(Broken),
     DimensionOver,
     NoRoom,
 }
@@ -29,7 +30,7 @@ pub fn asked_number(answer: Asked) -> u32
     match answer {
         Asked::Accepted => 0,
         Asked::FrameBroken => 10,
-        Asked::RowsBroken => 11,
+        Asked::RowsBroken(_) => 11,
         Asked::DimensionOver => 12,
         Asked::NoRoom => 13,
     }

@@ -26,7 +26,7 @@
 // | 9   | bits after the last vertex are set                          | load                    |
 // | 10  | the frame rule is broken                                    | all but load, ask_list  |
 // | 11  | the row rule is broken; for row and find, the row's own     | all but load, ask_list, |
-// |     | offsets alone                                               | held_count              |
+// |     | offsets alone; with where: a key and a position             | held_count              |
 // | 12  | d or e is over D; for close, D is 1                         | make, ask, row, find,   |
 // |     |                                                             | close                   |
 // | 13  | the used length afterwards would pass the book's length     | load, make, ask         |
@@ -63,10 +63,13 @@ pub use makes::make;
 pub use reading::Counted;
 pub use reading::EulerNumber;
 pub use reading::Found;
+pub use reading::RowAnswer;
 pub use reading::Written;
 pub use reading::euler;
 pub use reading::find;
 pub use reading::held_count;
 pub use reading::row;
+pub use reading::row_answer;
 pub use reading::row_number;
 pub use reading::write;
+pub use rows::Broken;

@@ -1,12 +1,14 @@
 // Make: one relation more.
 use crate::answers::Made;
+use rows::Rows;
 ghost use mathlib.Core.Path.{_≡_};
 ghost use mathlib.Core.Bool.{true};
 ghost use Prim.Native.Nat.{_≤_};
 ghost use Rattle.rules.specs.Lists.{allOf};
 ghost use Rattle.rules.specs.Book.{dim, held, needs};
+ghost use Rattle.rules.specs.Broken.{brokenAt, told};
 ghost use Rattle.rules.specs.Calls.{makeNumber, makeWords};
-ghost use Rattle.daybook.specs.Answers.{madeNumber};
+ghost use Rattle.daybook.specs.Answers.{madeNumber, madePlace};
 
 // Whether what d→e is made from is held.
 fn needs_held(book: &[u32], d: u32, e: u32) -> bool
@@ -29,13 +31,14 @@ fn needs_held(book: &[u32], d: u32, e: u32) -> bool
 // Makes d→e from what the book stores. Refusals: 10, 11, 12, 14, 15, 13.
 pub fn make(book: &mut [u32], d: u32, e: u32) -> Made
     ensures number { λ r. ⌜ madeNumber r ≡ makeNumber (now (book .entry)) d e ⌝ }
+    ensures place { λ r. ⌜ madePlace r ≡ told (makeNumber (now (book .entry)) d e) (brokenAt (now (book .entry))) ⌝ }
     ensures words { λ r. ⌜ now (book .exit) ≡ makeWords (now (book .entry)) d e ⌝ }
 {
     if !frame::frame_right(book) {
         return Made::FrameBroken;
     }
-    if !rows::rows_right(book) {
-        return Made::RowsBroken;
+    if let Rows::BrokenAt(place) = rows::broken_at(book) {
+        return Made::RowsBroken(place);
     }
     let top = book::dim(book);
     if d > top {

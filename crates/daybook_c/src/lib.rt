@@ -1,19 +1,24 @@
-// The C interface: each call of `daybook` under the name that include/daybook.h declares. The result is the paper's number, 0 where accepted; what an out reference refers to is written only where the paper gives something, and is otherwise left alone.
+// The C interface: each call of `daybook` under the name that include/daybook.h declares. The result is the paper's number, 0 where accepted; what an out reference refers to is written only where the paper gives something, and is otherwise left alone: with 11 the key and the position where the book is broken.
 ghost use mathlib.Core.Path.{_≡_};
 ghost use mathlib.Core.Bool.{cond, _||_};
 ghost use Prim.Native.Nat.{_+_, _<_};
 ghost use lib.ListN.{length};
 ghost use lib.Dec.{eqb};
-ghost use Rattle.rules.specs.Book.{key, rowStart, rowOf};
+ghost use Rattle.rules.specs.Book.{rowStart, rowOf};
+ghost use Rattle.rules.specs.Book as rule;
+ghost use Rattle.rules.specs.Broken.{brokenKey, brokenPlace, brokenOffset};
 ghost use Rattle.rules.specs.Calls.{faultCell, loadNumber, loadWords, makeNumber, makeWords, askNumber, askWords, listNumber, listAnswers, listWords, rowNumber, findNumber, findFound, findRead, writeNumber, writeLength, writeBytes, eulerNumber, eulerOf, heldNumber, heldCount};
 ghost use Rattle.rules.specs.Closures.{closeNumber, closuresAfter, stepsAfter, bytesAfter};
 use book::Place;
+use daybook::Asked;
+use daybook::Closed;
 use daybook::Counted;
 use daybook::EulerNumber;
 use daybook::Found;
 use daybook::Listed;
 use daybook::Loaded;
 use daybook::Made;
+use daybook::RowAnswer;
 use daybook::Written;
 
 // Loads a day file; with 7, 8 and 23 the cell is written.
@@ -50,14 +55,26 @@ pub extern "C" fn daybook_load(file: &[u8], book: &mut [u32], cell: &mut u32) ->
 
 // Makes d→e from what the book stores.
 #[no_mangle]
-pub extern "C" fn daybook_make(book: &mut [u32], d: u32, e: u32) -> u32
+pub extern "C" fn daybook_make(
+    book: &mut [u32],
+    d: u32,
+    e: u32,
+    key: &mut u32,
+    position: &mut usize,
+) -> u32
     ensures number { λ r. ⌜ r ≡ makeNumber (now (book .entry)) d e ⌝ }
+    ensures key { λ r. ⌜ now (key .exit) ≡ cond (eqb r 11) (brokenKey (now (book .entry))) (now (key .entry)) ⌝ }
+    ensures position { λ r. ⌜ now (position .exit) ≡ cond (eqb r 11) (brokenPlace (now (book .entry))) (now (position .entry)) ⌝ }
     ensures words { λ r. ⌜ now (book .exit) ≡ makeWords (now (book .entry)) d e ⌝ }
 {
     match daybook::make(book, d, e) {
         Made::Accepted => 0,
         Made::FrameBroken => 10,
-        Made::RowsBroken => 11,
+        Made::RowsBroken(place) => {
+            *key = place.key;
+            *position = place.position;
+            11
+        }
         Made::DimensionOver => 12,
         Made::AlreadyHeld => 14,
         Made::NeedMissing => 15,
@@ -67,11 +84,29 @@ pub extern "C" fn daybook_make(book: &mut [u32], d: u32, e: u32) -> u32
 
 // Makes d→e and, as far as missing, everything it is made from, or nothing at all.
 #[no_mangle]
-pub extern "C" fn daybook_ask(book: &mut [u32], d: u32, e: u32) -> u32
+pub extern "C" fn daybook_ask(
+    book: &mut [u32],
+    d: u32,
+    e: u32,
+    key: &mut u32,
+    position: &mut usize,
+) -> u32
     ensures number { λ r. ⌜ r ≡ askNumber (now (book .entry)) d e ⌝ }
+    ensures key { λ r. ⌜ now (key .exit) ≡ cond (eqb r 11) (brokenKey (now (book .entry))) (now (key .entry)) ⌝ }
+    ensures position { λ r. ⌜ now (position .exit) ≡ cond (eqb r 11) (brokenPlace (now (book .entry))) (now (position .entry)) ⌝ }
     ensures words { λ r. ⌜ now (book .exit) ≡ askWords (now (book .entry)) d e ⌝ }
 {
-    daybook::asked_number(daybook::ask(book, d, e))
+    match daybook::ask(book, d, e) {
+        Asked::Accepted => 0,
+        Asked::FrameBroken => 10,
+        Asked::RowsBroken(place) => {
+            *key = place.key;
+            *position = place.position;
+            11
+        }
+        Asked::DimensionOver => 12,
+        Asked::NoRoom => 13,
+    }
 }
 
 // Asks for each d, e pair in turn and writes each ask's number in its place; a refused ask does not stop the next.
@@ -106,19 +141,32 @@ pub extern "C" fn daybook_row(
     i: u32,
     start: &mut usize,
     count: &mut usize,
+    key: &mut u32,
+    position: &mut usize,
 ) -> u32
     ensures number { λ r. ⌜ r ≡ rowNumber (now (book .entry)) d e i ⌝ }
-    ensures start { λ r. ⌜ now (start .exit) ≡ cond (eqb r 0) (rowStart (now (book .entry)) (key d e) i) (now (start .entry)) ⌝ }
-    ensures count { λ r. ⌜ now (count .exit) ≡ cond (eqb r 0) (length (rowOf (now (book .entry)) (key d e) i)) (now (count .entry)) ⌝ }
+    ensures key { λ r. ⌜ now (key .exit) ≡ cond (eqb r 11) (rule.key d e) (now (key .entry)) ⌝ }
+    ensures position { λ r. ⌜ now (position .exit) ≡ cond (eqb r 11) (brokenOffset (now (book .entry)) d e i) (now (position .entry)) ⌝ }
+    ensures start { λ r. ⌜ now (start .exit) ≡ cond (eqb r 0) (rowStart (now (book .entry)) (rule.key d e) i) (now (start .entry)) ⌝ }
+    ensures count { λ r. ⌜ now (count .exit) ≡ cond (eqb r 0) (length (rowOf (now (book .entry)) (rule.key d e) i)) (now (count .entry)) ⌝ }
 {
-    let number = daybook::row_number(book, d, e, i);
-    if number != 0 {
-        return number;
+    match daybook::row_answer(book, d, e, i) {
+        RowAnswer::Accepted => {
+            let row = daybook::row(book, d, e, i);
+            *count = row.len();
+            *start = place_of_row(book, book::key(d, e), i).0;
+            0
+        }
+        RowAnswer::FrameBroken => 10,
+        RowAnswer::DimensionOver => 12,
+        RowAnswer::NotHeld => 16,
+        RowAnswer::NoSuchEntity => 17,
+        RowAnswer::RowsBroken(place) => {
+            *key = place.key;
+            *position = place.position;
+            11
+        }
     }
-    let row = daybook::row(book, d, e, i);
-    *count = row.len();
-    *start = place_of_row(book, book::key(d, e), i).0;
-    0
 }
 
 // Whether j is in row i of d→e: where accepted, 1 or 0 and how many indices were read are written.
@@ -131,8 +179,12 @@ pub extern "C" fn daybook_find(
     j: u32,
     yes: &mut u32,
     read: &mut usize,
+    key: &mut u32,
+    position: &mut usize,
 ) -> u32
     ensures number { λ r. ⌜ r ≡ findNumber (now (book .entry)) d e i j ⌝ }
+    ensures key { λ r. ⌜ now (key .exit) ≡ cond (eqb r 11) (rule.key d e) (now (key .entry)) ⌝ }
+    ensures position { λ r. ⌜ now (position .exit) ≡ cond (eqb r 11) (brokenOffset (now (book .entry)) d e i) (now (position .entry)) ⌝ }
     ensures yes { λ r. ⌜ now (yes .exit) ≡ cond (eqb r 0) (cond (findFound (now (book .entry)) d e i j) 1 0) (now (yes .entry)) ⌝ }
     ensures read { λ r. ⌜ now (read .exit) ≡ cond (eqb r 0) (findRead (now (book .entry)) d e i j) (now (read .entry)) ⌝ }
 {
@@ -149,15 +201,27 @@ pub extern "C" fn daybook_find(
         Found::DimensionOver => 12,
         Found::NotHeld => 16,
         Found::NoSuchEntity => 17,
-        Found::RowsBroken => 11,
+        Found::RowsBroken(place) => {
+            *key = place.key;
+            *position = place.position;
+            11
+        }
         Found::NoSuchIndex => 19,
     }
 }
 
 // Writes the book's file; where accepted, its length is written.
 #[no_mangle]
-pub extern "C" fn daybook_write(book: &[u32], bytes: &mut [u8], length: &mut usize) -> u32
+pub extern "C" fn daybook_write(
+    book: &[u32],
+    bytes: &mut [u8],
+    length: &mut usize,
+    key: &mut u32,
+    position: &mut usize,
+) -> u32
     ensures number { λ r. ⌜ r ≡ writeNumber (now (book .entry)) (now (bytes .entry)) ⌝ }
+    ensures key { λ r. ⌜ now (key .exit) ≡ cond (eqb r 11) (brokenKey (now (book .entry))) (now (key .entry)) ⌝ }
+    ensures position { λ r. ⌜ now (position .exit) ≡ cond (eqb r 11) (brokenPlace (now (book .entry))) (now (position .entry)) ⌝ }
     ensures length { λ r. ⌜ now (length .exit) ≡ cond (eqb r 0) (writeLength (now (book .entry))) (now (length .entry)) ⌝ }
     ensures bytes { λ r. ⌜ now (bytes .exit) ≡ writeBytes (now (book .entry)) (now (bytes .entry)) ⌝ }
 {
@@ -167,15 +231,26 @@ pub extern "C" fn daybook_write(book: &[u32], bytes: &mut [u8], length: &mut usi
             0
         }
         Written::FrameBroken => 10,
-        Written::RowsBroken => 11,
+        Written::RowsBroken(place) => {
+            *key = place.key;
+            *position = place.position;
+            11
+        }
         Written::BufferTooShort => 18,
     }
 }
 
 // The Euler number, written where accepted.
 #[no_mangle]
-pub extern "C" fn daybook_euler(book: &[u32], number: &mut i64) -> u32
+pub extern "C" fn daybook_euler(
+    book: &[u32],
+    number: &mut i64,
+    key: &mut u32,
+    position: &mut usize,
+) -> u32
     ensures number { λ r. ⌜ r ≡ eulerNumber (now (book .entry)) ⌝ }
+    ensures key { λ r. ⌜ now (key .exit) ≡ cond (eqb r 11) (brokenKey (now (book .entry))) (now (key .entry)) ⌝ }
+    ensures position { λ r. ⌜ now (position .exit) ≡ cond (eqb r 11) (brokenPlace (now (book .entry))) (now (position .entry)) ⌝ }
     ensures value { λ r. ⌜ now (number .exit) ≡ cond (eqb r 0) (eulerOf (now (book .entry))) (now (number .entry)) ⌝ }
 {
     match daybook::euler(book) {
@@ -184,7 +259,11 @@ pub extern "C" fn daybook_euler(book: &[u32], number: &mut i64) -> u32
             0
         }
         EulerNumber::FrameBroken => 10,
-        EulerNumber::RowsBroken => 11,
+        EulerNumber::RowsBroken(place) => {
+            *key = place.key;
+            *position = place.position;
+            11
+        }
         EulerNumber::NeedMissing => 15,
     }
 }
@@ -212,11 +291,27 @@ pub extern "C" fn daybook_closures(
     closures: &mut [i32],
     steps: &mut [f64],
     masked: &mut [u8],
+    key: &mut u32,
+    position: &mut usize,
 ) -> u32
     ensures number { λ r. ⌜ r ≡ closeNumber (now (book .entry)) (now (counts .entry)) (length (now (closures .entry))) (length (now (steps .entry))) (length (now (masked .entry))) ⌝ }
+    ensures key { λ r. ⌜ now (key .exit) ≡ cond (eqb r 11) (brokenKey (now (book .entry))) (now (key .entry)) ⌝ }
+    ensures position { λ r. ⌜ now (position .exit) ≡ cond (eqb r 11) (brokenPlace (now (book .entry))) (now (position .entry)) ⌝ }
     ensures closures { λ _. ⌜ now (closures .exit) ≡ closuresAfter (now (book .entry)) (now (counts .entry)) (now (closures .entry)) (now (steps .entry)) (now (masked .entry)) ⌝ }
     ensures steps { λ _. ⌜ now (steps .exit) ≡ stepsAfter (now (book .entry)) (now (counts .entry)) (now (closures .entry)) (now (steps .entry)) (now (masked .entry)) ⌝ }
     ensures bytes { λ _. ⌜ now (masked .exit) ≡ bytesAfter (now (book .entry)) (now (counts .entry)) (now (closures .entry)) (now (steps .entry)) (now (masked .entry)) ⌝ }
 {
-    daybook::closed_number(daybook::close(book, counts, closures, steps, masked))
+    match daybook::close(book, counts, closures, steps, masked) {
+        Closed::Accepted => 0,
+        Closed::FrameBroken => 10,
+        Closed::RowsBroken(place) => {
+            *key = place.key;
+            *position = place.position;
+            11
+        }
+        Closed::OneDimension => 12,
+        Closed::NeedMissing => 15,
+        Closed::ListLength => 21,
+        Closed::CountOutside => 22,
+    }
 }

@@ -1,9 +1,12 @@
 // Find: whether an index is in a row. The row is read from its front, and no further than the answer needs.
 use crate::answers::Found;
-use crate::parts::row_number;
+use crate::answers::RowAnswer;
+use crate::parts::row_answer;
 ghost use mathlib.Core.Path.{_≡_};
-ghost use Rattle.rules.specs.Calls.{foundIn, readIn, findNumber, findFound, findRead};
-ghost use Rattle.reading.specs.Answers.{foundNumber, foundYes, foundRead};
+ghost use mathlib.Core.Option.{none};
+ghost use Rattle.rules.specs.Broken.{rowBrokenAt, told};
+ghost use Rattle.rules.specs.Calls.{rowNumber, foundIn, readIn, findNumber, findFound, findRead};
+ghost use Rattle.reading.specs.Answers.{foundNumber, foundYes, foundRead, foundPlace};
 
 // Whether j is in a row, and how many of its indices are read: those below j that lead, and the one after them, if there is one.
 fn search(row: &[u32], j: u32) -> Found
@@ -26,19 +29,18 @@ fn search(row: &[u32], j: u32) -> Found
     }
 }
 
-// Find's number, 0 where accepted: Row's, then 19.
-fn find_number(book: &[u32], d: u32, e: u32, i: u32, j: u32) -> u32
-    ensures { λ r. ⌜ r ≡ findNumber (now (book .entry)) d e i j ⌝ }
+// The search in row i of d→e, which Row accepts. Refusal: 19 where j is N_e or more.
+fn search_row(book: &[u32], d: u32, e: u32, i: u32, j: u32) -> Found
+    requires { ⌜ rowNumber (now book) d e i ≡ 0 ⌝ }
+    ensures number { λ r. ⌜ foundNumber r ≡ findNumber (now (book .entry)) d e i j ⌝ }
+    ensures yes { λ r. ⌜ foundYes r ≡ findFound (now (book .entry)) d e i j ⌝ }
+    ensures read { λ r. ⌜ foundRead r ≡ findRead (now (book .entry)) d e i j ⌝ }
+    ensures place { λ r. ⌜ foundPlace r ≡ none ⌝ }
 {
-    let number = row_number(book, d, e, i);
-    let bound = book::count(book, e);
-    if number != 0 {
-        return number;
+    if j >= book::count(book, e) {
+        return Found::NoSuchIndex;
     }
-    if j >= bound {
-        return 19;
-    }
-    0
+    search(rows::row(book, book::key(d, e), i), j)
 }
 
 // Whether j is in row i of d→e, and how many of the row's indices were read. Refusals: 10, 12, 16, 17, 11, then 19 where j is N_e or more.
@@ -46,14 +48,14 @@ pub fn find(book: &[u32], d: u32, e: u32, i: u32, j: u32) -> Found
     ensures number { λ r. ⌜ foundNumber r ≡ findNumber (now (book .entry)) d e i j ⌝ }
     ensures yes { λ r. ⌜ foundYes r ≡ findFound (now (book .entry)) d e i j ⌝ }
     ensures read { λ r. ⌜ foundRead r ≡ findRead (now (book .entry)) d e i j ⌝ }
+    ensures place { λ r. ⌜ foundPlace r ≡ told (findNumber (now (book .entry)) d e i j) (rowBrokenAt (now (book .entry)) d e i) ⌝ }
 {
-    match find_number(book, d, e, i, j) {
-        0 => search(rows::row(book, book::key(d, e), i), j),
-        10 => Found::FrameBroken,
-        11 => Found::RowsBroken,
-        12 => Found::DimensionOver,
-        16 => Found::NotHeld,
-        17 => Found::NoSuchEntity,
-        _ => Found::NoSuchIndex,
+    match row_answer(book, d, e, i) {
+        RowAnswer::Accepted => search_row(book, d, e, i, j),
+        RowAnswer::FrameBroken => Found::FrameBroken,
+        RowAnswer::DimensionOver => Found::DimensionOver,
+        RowAnswer::NotHeld => Found::NotHeld,
+        RowAnswer::NoSuchEntity => Found::NoSuchEntity,
+        RowAnswer::RowsBroken(place) => Found::RowsBroken(place),
     }
 }

@@ -1,14 +1,16 @@
 // The Euler number and the held count.
 use crate::answers::Counted;
 use crate::answers::EulerNumber;
+use rows::Rows;
 ghost use mathlib.Core.Path.{_≡_};
-ghost use mathlib.Core.Bool.{true, not, _&&_, _||_};
+ghost use mathlib.Core.Bool.{true, not, _&&_};
 ghost use Prim.Native.Nat.{_<_};
 ghost use lib.Dec.{ltb};
 ghost use lib.IntN.{subℕ};
 ghost use Rattle.rules.specs.Book.{dim, key, held, frameRight};
+ghost use Rattle.rules.specs.Broken.{brokenAt, told};
 ghost use Rattle.rules.specs.Calls.{eulerNumber, eulerOf, heldNumber, heldCount};
-ghost use Rattle.reading.specs.Answers.{eulerAnswer, eulerValue, countedNumber, countedRelations};
+ghost use Rattle.reading.specs.Answers.{eulerAnswer, eulerPlace, eulerValue, countedNumber, countedRelations};
 ghost use Rattle.reading.specs.Parts.{evens, odds};
 
 // Whether d→0 is missing, where d < D.
@@ -56,13 +58,14 @@ fn difference(a: u32, b: u32) -> i64
 // The Euler number. Refusals: 10, 11, and 15 where d→0 is not held for some 0 < d < D.
 pub fn euler(book: &[u32]) -> EulerNumber
     ensures number { λ r. ⌜ eulerAnswer r ≡ eulerNumber (now (book .entry)) ⌝ }
+    ensures place { λ r. ⌜ eulerPlace r ≡ told (eulerNumber (now (book .entry))) (brokenAt (now (book .entry))) ⌝ }
     ensures value { λ r. ⌜ (eulerAnswer r ≡ 0 → eulerValue r ≡ eulerOf (now (book .entry))) ⌝ }
 {
     if !frame::frame_right(book) {
         return EulerNumber::FrameBroken;
     }
-    if !rows::rows_right(book) {
-        return EulerNumber::RowsBroken;
+    if let Rows::BrokenAt(place) = rows::broken_at(book) {
+        return EulerNumber::RowsBroken(place);
     }
     if set_missing(book, 1) {
         return EulerNumber::NeedMissing;

@@ -1,3 +1,4 @@
-pub mod Offsets
+pub mod Walked
 pub mod Cells
+pub mod Free
 pub mod Determined

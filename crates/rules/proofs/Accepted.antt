@@ -1,7 +1,7 @@
 -- What an accepted call has passed: where the number is 0, no rule of its list is broken.
 use mathlib.Core.Path.{_≡_, refl, sym, ap, _∙_}
 use mathlib.Core.Bool.{Bool, true, false, cond, not, _&&_, _||_}
-use mathlib.Core.List.{List, [], _∷_, _++_, map, List·Memᴰ as In, List·Memᴰ·head as here, List·Memᴰ·tail as there}
+use mathlib.Core.List.{List, [], _∷_, _++_, map}
 use Prim.Native.Nat.{ℕ, _*_, _/_, _%_, _≤_, _<_}
 use native.Mathlib.Omega.{arith}
 use lib.ListN.{length, length-append, length-replicate}
@@ -45,17 +45,6 @@ first-append (r ∷ rs) qs p = go (r .broken) (first-append rs qs (right (ltb 0 
         ≡ cond (eqb (cond b (r .answer) (firstBroken rs 0)) 0) (firstBroken qs 0) (cond b (r .answer) (firstBroken rs 0))
     go true e = rw (ne-eqb (r .answer) 0 (omega (arith, l)))
     go false e = e
-
--- the answer is 0 or one of the rules' own
-pub first-given : (rs : List (Rule ℕ)) → In (firstBroken rs 0) (0 ∷ map (λ r. r .answer) rs)
-unfolding firstBroken
-first-given [] = here refl
-first-given (r ∷ rs) = go (r .broken) (first-given rs)
-  where
-    go : (b : Bool) → In (firstBroken rs 0) (0 ∷ map (λ r. r .answer) rs) → In (cond b (r .answer) (firstBroken rs 0)) (0 ∷ r .answer ∷ map (λ r. r .answer) rs)
-    go true i = there (here refl)
-    go false (here e) = here e
-    go false (there i) = there (there i)
 
 pub length-filled : (n : ℕ) (ws : List ℕ) → length ws ≤ n → length (filled n ws) ≡ n
 unfolding filled
@@ -255,12 +244,7 @@ finds ws d e i j h = go (eqb (rowNumber ws d e i) 0) refl (leb (count ws e) j) r
     go true p false q z = (eqb-true _ _ p, leb-false _ _ q)
     go false p b q z = absurd (eqb-false _ _ p z)
 
--- the numbers that Find gives
-pub find-given : (ws : List ℕ) (d e i j : ℕ) → In (findNumber ws d e i j) (0 ∷ 10 ∷ 12 ∷ 16 ∷ 17 ∷ 11 ∷ 19 ∷ [])
-unfolding findNumber
-find-given ws d e i j = unfold findRules rowRules in first-given (findRules ws d e i j)
-
--- what comes with them
+-- what comes with Find's number
 pub find-accepted : (ws : List ℕ) (d e i j : ℕ) → findNumber ws d e i j ≡ 0 → (findFound ws d e i j ≡ foundIn j (rowOf ws (key d e) i)) × (findRead ws d e i j ≡ readIn j (rowOf ws (key d e) i))
 unfolding findFound findRead
 find-accepted ws d e i j h = (rw h, rw h)

@@ -4,7 +4,7 @@ use mathlib.Core.Bool.{Bool, true, false, cond, _&&_}
 use mathlib.Core.Logic.{inl, inr}
 use mathlib.Core.List.{List, [], _∷_}
 use Prim.Native.Nat.{ℕ, zero, suc, _+_, _-_, _*_, _/_, _%_, _^_, _≤_, _<_}
-use native.Mathlib.Nat.{add-zero, eq-or-lt-of-le, pow-le-pow-right, div-eq-of-lt, mul-le-mul-left}
+use native.Mathlib.Nat.{eq-or-lt-of-le, pow-le-pow-right, div-eq-of-lt, mul-le-mul-left}
 use native.Mathlib.Decide.{decLt}
 use native.Mathlib.Numerals.{add-one}
 use native.Mathlib.Omega.{arith}
@@ -23,14 +23,6 @@ module _ (ws : List ℕ) (k at : ℕ) (stands : at ≡ place ws k) where
 
   pub place-passed : held ws k ≡ false → at ≡ place ws (k + 1)
   place-passed h = rw add-one (stands ∙ sym (place-skipped ws k h))
-
-  -- the first offset, and all of them, as code reads them
-  pub offset-begins : (first : ℕ) → first ≡ getD ws at 0 → offset ws k 0 ≡ first
-  unfolding offset
-  offset-begins first e = rw (add-zero, ← stands) (sym e)
-
-  pub offset-words : (n : ℕ) → n ≡ count ws (k / 4) → take (n + 1) (drop at ws) ≡ take (count ws (k / 4) + 1) (drop (place ws k) ws)
-  offset-words n e = rw (e, stands)
 
   -- a row, and where it begins, as code reads them
   module _ (i n first : ℕ) (rows : n ≡ count ws (k / 4)) (begins : first ≡ getD ws (at + i) 0) where

@@ -6,15 +6,15 @@ use Prim.Native.Nat.{ℕ, zero, suc, _+_, _-_, _≤_, _<_, min}
 use native.Mathlib.Numerals.{add-one}
 use native.Mathlib.Omega.{arith}
 use native.Mathlib.Decide.{decLt}
-use lib.ListN.{length, getD, take, drop, length-take, length-drop, drop-of-length-le, take-append-drop}
-use lib.Seq.{ext-getD, getD-take, take-all, take-nil, take-suc, drop-drop}
+use lib.ListN.{length, getD, take, drop, length-take, length-drop, drop-of-length-le}
+use lib.Seq.{ext-getD, getD-take, take-all, take-nil, take-suc}
 use lib.Bits.{bitOr, or-add-and, and-le-l, and-le-r}
 use lib.Dec.{eqb, ltb, leb}
 use borrow.Author.Tests.{ltb-true, eqb-true, lt-ltb, le-ltb, le-leb, lt-leb, eq-eqb}
 use Rattle.rules.specs.Lists.{upTo, allOf, keep, ascends, rises}
 use Rattle.rules.proofs.Tests.{agree, left, right, and-of, all-of, all-at, all-place}
 use Rattle.rules.proofs.Keep.{keep-of, keep-is, upTo-of, upTo-is}
-use Rattle.rules.proofs.Numbered.{length-rows, getD-rows, all-rows}
+use Rattle.rules.proofs.Numbered.{length-rows, getD-rows}
 
 -- a test that is not true is false
 pub not-so : (b : Bool) → (b ≡ true → ⊥) → b ≡ false
@@ -47,9 +47,6 @@ module _ {ℓ} {A : Type ℓ} where
   pub all-taken-not : (p : A → Bool) (n : ℕ) (xs : List A) (d : A) (i : ℕ) → i < n → i < length xs → p (getD xs i d) ≡ false → allOf p (take n xs) ≡ false
   all-taken-not p n xs d i m l f =
       all-not p (take n xs) d i (rw length-take (omega arith)) (rw (getD-take n xs i d m) f)
-
-  pub all-rows-not : (f : ℕ → A) (n : ℕ) (p : A → Bool) (i : ℕ) → i < n → p (f i) ≡ false → allOf p (map f (upTo n)) ≡ false
-  all-rows-not f n p i l e = not-so (allOf p (map f (upTo n))) (λ t. false≢true (sym e ∙ all-rows f n p t i l))
 
   pub all-rows-are : (f : ℕ → A) (n : ℕ) (p : A → Bool) → ((i : ℕ) → i < n → p (f i) ≡ true) → allOf p (map f (upTo n)) ≡ true
   unfolding allOf
@@ -151,11 +148,6 @@ module _ {ℓ} {A : Type ℓ} (p : A → Bool) where
       go : (b : Bool) → allOf p (xs ++ ys) ≡ (allOf p xs && allOf p ys) → (b && allOf p (xs ++ ys)) ≡ (b && allOf p xs && allOf p ys)
       go true e = e
       go false e = refl
-
-  pub all-split : (a n : ℕ) (xs : List A) → allOf p (drop a xs) ≡ (allOf p (take n (drop a xs)) && allOf p (drop (a + n) xs))
-  all-split a n xs =
-      ap (allOf p) (sym (take-append-drop n (drop a xs))) ∙ all-joined (take n (drop a xs)) (drop n (drop a xs))
-      ∙ ap (λ (ys : List A). allOf p (take n (drop a xs)) && allOf p ys) (drop-drop n a xs)
 
   pub all-next : (i : ℕ) (xs : List A) (d : A) → i < length xs → allOf p (take (i + 1) xs) ≡ (allOf p (take i xs) && p (getD xs i d))
   unfolding allOf

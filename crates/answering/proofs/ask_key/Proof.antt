@@ -1,6 +1,4 @@
 -- The two tests of `within`, one after the other.
-use mathlib.Core.Path.{_≡_, sym}
-use native.Mathlib.Omega.{arith}
 use Rattle.answering.proofs.Asking.{within-both, within-not-first, within-not-second}
 use borrow.Author.Needs.{needs}
 use Rattle.answering.proofs.ask_key.Statement.{statement}
@@ -26,9 +24,11 @@ same-length c = search needs
 
 returns-3 : tie.Need-returns-3
 returns-3 c =
-    let a = c .before .before .before .before .before .before .before .args in
-    let e = within-both (a .top) (a .k) (c .before .before .before .before .before .if1 .left) (c .before .before .before .before .if2 .left) in
-    (rw e (c .before .before .daybook-ask .ensures .0), rw e (c .before .before .daybook-ask .ensures .1))
+    let d = c .before .before in
+    let t = d .before .before .before .before in
+    let a = t .before .before .before .args in
+    let e = within-both (a .top) (a .k) (t .before .if1 .left) (t .if2 .left) in
+    (rw e (d .daybook-ask .ensures .0), rw e (d .daybook-ask .ensures .1 .1 .1))
 
 pub ask-key-spec : {M : Type 1} → statement M
 ask-key-spec = tie.close (tie.spec returns returns-2 daybook-ask-requires same-length returns-3)

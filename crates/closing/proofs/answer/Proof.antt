@@ -1,11 +1,13 @@
--- `closing::answer` meets its contract: each answer comes with the tests that were passed before it.
-use mathlib.Core.Path.{_≡_, sym, _∙_}
+-- `closing::answer` meets its contract: each answer comes with the tests that were passed before it, and 11 with the place that was found.
+use mathlib.Core.Path.{_≡_, refl, sym, ap, _∙_}
 use mathlib.Core.Bool.{true}
 use Rattle.rules.specs.Book.{dim, held, frameRight, rowsRight}
 use Rattle.rules.specs.Closures.{lengthsRight}
+use Rattle.rules.proofs.Told.{none-right}
 use Rattle.book.proofs.Flags.{off, on}
-use Rattle.closing.specs.Answers.{closedNumber}
-use Rattle.closing.proofs.Answered.{ten, eleven, twelve, fifteen, fifteen-too, twenty-one, twenty-two, none}
+use Rattle.rows.specs.Answers.{rowsPlace}
+use Rattle.closing.specs.Answers.{closedNumber, closedPlace}
+use Rattle.closing.proofs.Answered.{ten, eleven, twelve, fifteen, fifteen-too, twenty-one, twenty-two, accepted, bare}
 use borrow.Author.Needs.{needs}
 use Rattle.closing.proofs.answer.Statement.{statement}
 use Rattle.closing.proofs.answer.Tie as tie
@@ -14,61 +16,74 @@ frame-right-requires : tie.Need-frame-right-requires
 frame-right-requires c κs = search needs
 
 returns : tie.Need-returns
-unfolding closedNumber
+unfolding closedNumber closedPlace
 returns c =
     let a = c .before .before .before .args in
-    ten (a .book .now) (a .counts .now) (a .closures) (a .steps) (a .bytes) (off (c .before .frame-right .ensures) (c .if1 .taken))
+    bare (a .book .now) 10 refl (ten (a .book .now) (a .counts .now) (a .closures) (a .steps) (a .bytes) (off (c .before .frame-right .ensures) (c .if1 .taken)))
 
 framed : (c : tie.Else1) → let a = c .before .before .before .args in frameRight (a .book .now) ≡ true
 framed c = on (c .before .frame-right .ensures) (c .if1 .left)
 
-rows-right-requires : tie.Need-rows-right-requires
-rows-right-requires c κs = framed c
+broken-at-requires : tie.Need-broken-at-requires
+broken-at-requires c κs = framed c
+
+enum-known-place : tie.Need-enum-known-place
+enum-known-place c = search needs
 
 returns-2 : tie.Need-returns-2
-unfolding closedNumber
+unfolding closedNumber closedPlace rowsPlace
 returns-2 c =
-    let a = c .before .before .before .before .before .args in
-    eleven (a .book .now) (a .counts .now) (a .closures) (a .steps) (a .bytes) (framed (c .before .before)) (off (c .before .rows-right .ensures) (c .if2 .taken))
+    let b = c .before .before .before in
+    let a = b .before .before .before .before .args in
+    eleven (a .book .now) (a .counts .now) (a .closures) (a .steps) (a .bytes) (framed (b .before)) _ (sym (ap rowsPlace (c .before .place .given .1)) ∙ b .broken-at .ensures)
 
-rowed : (c : tie.Else2) → let a = c .before .before .before .before .before .args in rowsRight (a .book .now) ≡ true
-rowed c = on (c .before .rows-right .ensures) (c .if2 .left)
+enum-told : tie.Need-enum-told
+enum-told c = search needs
+
+rowed : (c : tie.After-enum-told) → let a = c .before .before .before .before .before .before .args in rowsRight (a .book .now) ≡ true
+unfolding rowsPlace
+rowed c =
+    let b = c .before .before in
+    none-right (b .before .before .before .before .args .book .now) (framed (b .before)) (sym (b .broken-at .ensures) ∙ ap rowsPlace (c .enum-told .given .1))
 
 dim-requires : tie.Need-dim-requires
 dim-requires c κs = search needs
 
 returns-3 : tie.Need-returns-3
-unfolding closedNumber
+unfolding closedNumber closedPlace
 returns-3 c =
-    let a = c .before .before .before .before .before .before .before .args in
-    twelve (a .book .now) (a .counts .now) (a .closures) (a .steps) (a .bytes) (framed (c .before .before .before .before)) (rowed (c .before .before)) (sym (c .before .dim .ensures) ∙ c .if3 .taken)
+    let r = c .before .before in
+    let a = r .before .before .before .before .before .before .args in
+    bare (a .book .now) 12 refl (twelve (a .book .now) (a .counts .now) (a .closures) (a .steps) (a .bytes) (framed (r .before .before .before)) (rowed r) (sym (c .before .dim .ensures) ∙ c .if2 .taken))
 
-over-one : (c : tie.Else3) → let a = c .before .before .before .before .before .before .before .args in dim (a .book .now) ≡ 1 → ⊥
-over-one c = λ e. c .if3 .left (c .before .dim .ensures ∙ e)
+over-one : (c : tie.Else2) → let a = c .before .before .before .before .before .before .before .before .args in dim (a .book .now) ≡ 1 → ⊥
+over-one c = λ e. c .if2 .left (c .before .dim .ensures ∙ e)
 
 held-requires : tie.Need-held-requires
 held-requires c κs = search needs
 
 returns-4 : tie.Need-returns-4
-unfolding closedNumber
+unfolding closedNumber closedPlace
 returns-4 c =
-    let a = c .before .before .before .before .before .before .before .before .before .args in
-    fifteen (a .book .now) (a .counts .now) (a .closures) (a .steps) (a .bytes) (framed (c .before .before .before .before .before .before)) (rowed (c .before .before .before .before)) (over-one (c .before .before)) (off (c .before .held .ensures) (c .if4 .taken))
+    let r = c .before .before .before .before in
+    let a = r .before .before .before .before .before .before .args in
+    bare (a .book .now) 15 refl (fifteen (a .book .now) (a .counts .now) (a .closures) (a .steps) (a .bytes) (framed (r .before .before .before)) (rowed r) (over-one (c .before .before)) (off (c .before .held .ensures) (c .if3 .taken)))
 
-edges-held : (c : tie.Else4) → let a = c .before .before .before .before .before .before .before .before .before .args in held (a .book .now) 4 ≡ true
-edges-held c = on (c .before .held .ensures) (c .if4 .left)
+edges-held : (c : tie.Else3) → let a = c .before .before .before .before .before .before .before .before .before .before .args in held (a .book .now) 4 ≡ true
+edges-held c = on (c .before .held .ensures) (c .if3 .left)
 
 held-requires-2 : tie.Need-held-requires-2
 held-requires-2 c κs = search needs
 
 returns-5 : tie.Need-returns-5
-unfolding closedNumber
+unfolding closedNumber closedPlace
 returns-5 c =
-    let a = c .before .before .before .before .before .before .before .before .before .before .before .args in
-    fifteen-too (a .book .now) (a .counts .now) (a .closures) (a .steps) (a .bytes) (framed (c .before .before .before .before .before .before .before .before)) (rowed (c .before .before .before .before .before .before)) (over-one (c .before .before .before .before)) (edges-held (c .before .before)) (off (c .before .held2 .ensures) (c .if5 .taken))
+    let r = c .before .before .before .before .before .before in
+    let a = r .before .before .before .before .before .before .args in
+    bare (a .book .now) 15 refl (fifteen-too (a .book .now) (a .counts .now) (a .closures) (a .steps) (a .bytes) (framed (r .before .before .before)) (rowed r) (over-one (c .before .before .before .before)) (edges-held (c .before .before)) (off (c .before .held2 .ensures) (c .if4 .taken)))
 
-faces-held : (c : tie.Else5) → let a = c .before .before .before .before .before .before .before .before .before .before .before .args in held (a .book .now) 8 ≡ true
-faces-held c = on (c .before .held2 .ensures) (c .if5 .left)
+faces-held : (c : tie.Else4) → let a = c .before .before .before .before .before .before .before .before .before .before .before .before .args in held (a .book .now) 8 ≡ true
+faces-held c = on (c .before .held2 .ensures) (c .if4 .left)
 
 lengths-right-requires : tie.Need-lengths-right-requires
 lengths-right-requires c κs = search needs
@@ -77,28 +92,31 @@ all-lent-requires : tie.Need-all-lent-requires
 all-lent-requires c κs = search needs
 
 returns-6 : tie.Need-returns-6
-unfolding closedNumber
+unfolding closedNumber closedPlace
 returns-6 c =
     let h = c .before .before .before in
-    let a = h .before .before .before .before .before .before .before .before .before .before .before .args in
-    twenty-one (a .book .now) (a .counts .now) (a .closures) (a .steps) (a .bytes) (framed (h .before .before .before .before .before .before .before .before)) (rowed (h .before .before .before .before .before .before)) (over-one (h .before .before .before .before)) (edges-held (h .before .before)) (faces-held h) (off (c .before .before .lengths-right .ensures) (c .if6 .taken))
+    let r = h .before .before .before .before .before .before in
+    let a = r .before .before .before .before .before .before .args in
+    bare (a .book .now) 21 refl (twenty-one (a .book .now) (a .counts .now) (a .closures) (a .steps) (a .bytes) (framed (r .before .before .before)) (rowed r) (over-one (h .before .before .before .before)) (edges-held (h .before .before)) (faces-held h) (off (c .before .before .lengths-right .ensures) (c .if5 .taken)))
 
-sized : (c : tie.Else6) → let a = c .before .before .before .before .before .before .before .before .before .before .before .before .before .before .args in lengthsRight (a .book .now) (a .counts .now) (a .closures) (a .steps) (a .bytes) ≡ true
-sized c = on (c .before .before .lengths-right .ensures) (c .if6 .left)
+sized : (c : tie.Else5) → let a = c .before .before .before .before .before .before .before .before .before .before .before .before .before .before .before .args in lengthsRight (a .book .now) (a .counts .now) (a .closures) (a .steps) (a .bytes) ≡ true
+sized c = on (c .before .before .lengths-right .ensures) (c .if5 .left)
 
 returns-7 : tie.Need-returns-7
-unfolding closedNumber
+unfolding closedNumber closedPlace
 returns-7 c =
     let h = c .before .before .before .before in
-    let a = h .before .before .before .before .before .before .before .before .before .before .before .args in
-    twenty-two (a .book .now) (a .counts .now) (a .closures) (a .steps) (a .bytes) (framed (h .before .before .before .before .before .before .before .before)) (rowed (h .before .before .before .before .before .before)) (over-one (h .before .before .before .before)) (edges-held (h .before .before)) (faces-held h) (sized (c .before)) (off (c .before .before .all-lent .ensures) (c .if7 .taken))
+    let r = h .before .before .before .before .before .before in
+    let a = r .before .before .before .before .before .before .args in
+    bare (a .book .now) 22 refl (twenty-two (a .book .now) (a .counts .now) (a .closures) (a .steps) (a .bytes) (framed (r .before .before .before)) (rowed r) (over-one (h .before .before .before .before)) (edges-held (h .before .before)) (faces-held h) (sized (c .before)) (off (c .before .before .all-lent .ensures) (c .if6 .taken)))
 
 returns-8 : tie.Need-returns-8
-unfolding closedNumber
+unfolding closedNumber closedPlace
 returns-8 c =
     let h = c .before .before .before .before in
-    let a = h .before .before .before .before .before .before .before .before .before .before .before .args in
-    none (a .book .now) (a .counts .now) (a .closures) (a .steps) (a .bytes) (framed (h .before .before .before .before .before .before .before .before)) (rowed (h .before .before .before .before .before .before)) (over-one (h .before .before .before .before)) (edges-held (h .before .before)) (faces-held h) (sized (c .before)) (on (c .before .before .all-lent .ensures) (c .if7 .left))
+    let r = h .before .before .before .before .before .before in
+    let a = r .before .before .before .before .before .before .args in
+    bare (a .book .now) 0 refl (accepted (a .book .now) (a .counts .now) (a .closures) (a .steps) (a .bytes) (framed (r .before .before .before)) (rowed r) (over-one (h .before .before .before .before)) (edges-held (h .before .before)) (faces-held h) (sized (c .before)) (on (c .before .before .all-lent .ensures) (c .if6 .left)))
 
 pub answer-spec : {M : Type 1} → statement M
 answer-spec =
@@ -106,8 +124,10 @@ answer-spec =
     (tie.spec
     frame-right-requires
     returns
-    rows-right-requires
+    broken-at-requires
+    enum-known-place
     returns-2
+    enum-told
     dim-requires
     returns-3
     held-requires

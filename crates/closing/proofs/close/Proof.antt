@@ -10,7 +10,7 @@ use Rattle.closing.proofs.close.Tie as tie
 -- the number that was tested is the call's
 tested : (c : tie.After-closed-number) → (c .closed-number .result)
     ≡ closeNumber (c .before .before .before .before .before .args .book .now) (c .before .before .before .before .before .args .counts .now) (length (c .before .before .before .before .before .args .closures .now)) (length (c .before .before .before .before .before .args .steps .now)) (length (c .before .before .before .before .before .args .bytes .now))
-tested c = c .closed-number .ensures ∙ c .before .answer .ensures
+tested c = c .closed-number .ensures ∙ c .before .answer .ensures .0
 
 -- an accepted call has passed all tests
 accepts : (c : tie.Else1) → Passed (c .before .before .before .before .before .before .args .book .now) (c .before .before .before .before .before .before .args .counts .now) (length (c .before .before .before .before .before .before .args .closures .now)) (length (c .before .before .before .before .before .before .args .steps .now)) (length (c .before .before .before .before .before .before .args .bytes .now))
@@ -30,7 +30,8 @@ returns c =
     let start = c .before .before .before .before .before .before in
     let a = refused (start .args .book .now) (start .args .counts .now) (start .args .closures .now) (start .args .steps .now) (start .args .bytes .now)
     (λ e. c .if1 .taken (tested (c .before) ∙ e)) in
-    (c .before .before .answer .ensures, (a .closures-are, (a .steps-are, a .bytes-are)))
+    let e = c .before .before .answer .ensures in
+    (e .0, (e .1, (a .closures-are, (a .steps-are, a .bytes-are))))
 
 fill-steps-requires : tie.Need-fill-steps-requires
 fill-steps-requires c κs = let p = accepts (c .before .before) in (p .edges, p .even)
@@ -55,7 +56,8 @@ returns-2 c =
     let e = filled .fill-steps .ensures in
     let a = done (start .args .book .now) (start .args .counts .now) (start .args .closures .now) (start .args .steps .now) (start .args .bytes .now)
     (sym (tested (passing .before)) ∙ passing .if1 .left) _ _ _ (c .before .fill-closures .ensures) (e .0) (e .1) in
-    (passing .before .before .answer .ensures, (a .closures-are, (a .steps-are, a .bytes-are)))
+    let answered = passing .before .before .answer .ensures in
+    (answered .0, (answered .1, (a .closures-are, (a .steps-are, a .bytes-are))))
 
 pub close-spec : {M : Type 1} → statement M
 close-spec =

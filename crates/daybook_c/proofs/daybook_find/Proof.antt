@@ -1,8 +1,9 @@
--- Each answer has its number; where accepted, yes as 1 or no as 0, and how many indices were read.
-use mathlib.Core.Path.{_≡_, refl, sym, ap, _∙_}
-use Rattle.reading.specs.Answers.{foundNumber, foundYes, foundRead}
-use borrow.Author.Needs.{needs}
+-- Each answer has its number; where accepted, yes as 1 or no as 0, and how many indices were read; with 11 the row's place.
+use mathlib.Core.Path.{refl, sym, ap, _∙_}
+use Rattle.rules.proofs.Told.{told-row}
+use Rattle.reading.specs.Answers.{foundNumber, foundYes, foundRead, foundPlace}
 use Rattle.daybook_c.proofs.Given.{flag-is}
+use borrow.Author.Needs.{needs}
 use Rattle.daybook_c.proofs.daybook_find.Statement.{statement}
 use Rattle.daybook_c.proofs.daybook_find.Tie as tie
 
@@ -27,44 +28,57 @@ enum-told-3 c = search needs
 enum-told-4 : tie.Need-enum-told-4
 enum-told-4 c = search needs
 
+enum-known-place : tie.Need-enum-known-place
+enum-known-place c = search needs
+
 enum-told-5 : tie.Need-enum-told-5
 enum-told-5 c = search needs
-
-enum-told-6 : tie.Need-enum-told-6
-enum-told-6 c = search needs
 
 returns : tie.Need-returns
 unfolding foundNumber foundYes foundRead
 returns c =
     let w = c .before .before .before .find .ensures in
-    let t = c .before .found .given .1 in (
-      sym (ap foundNumber t) ∙ w .0,
-      (flag-is (sym (ap foundYes t) ∙ w .1 .0), sym (ap foundRead t) ∙ w .1 .1),
-    )
+    let t = c .before .found .given .1 in
+    (sym (ap foundNumber t) ∙ w .0, (refl, (refl, (flag-is (sym (ap foundYes t) ∙ w .1 .0), sym (ap foundRead t) ∙ w .1 .1 .0))))
 
 returns-2 : tie.Need-returns-2
 unfolding foundNumber
-returns-2 c = (sym (ap foundNumber (c .enum-told .given .1)) ∙ c .before .before .find .ensures .0, (refl, refl))
+returns-2 c =
+    let w = c .before .before .find .ensures in
+    (sym (ap foundNumber (c .enum-told .given .1)) ∙ w .0, (refl, (refl, (refl, refl))))
 
 returns-3 : tie.Need-returns-3
 unfolding foundNumber
-returns-3 c = (sym (ap foundNumber (c .enum-told2 .given .1)) ∙ c .before .before .find .ensures .0, (refl, refl))
+returns-3 c =
+    let w = c .before .before .find .ensures in
+    (sym (ap foundNumber (c .enum-told2 .given .1)) ∙ w .0, (refl, (refl, (refl, refl))))
 
 returns-4 : tie.Need-returns-4
 unfolding foundNumber
-returns-4 c = (sym (ap foundNumber (c .enum-told3 .given .1)) ∙ c .before .before .find .ensures .0, (refl, refl))
+returns-4 c =
+    let w = c .before .before .find .ensures in
+    (sym (ap foundNumber (c .enum-told3 .given .1)) ∙ w .0, (refl, (refl, (refl, refl))))
 
 returns-5 : tie.Need-returns-5
 unfolding foundNumber
-returns-5 c = (sym (ap foundNumber (c .enum-told4 .given .1)) ∙ c .before .before .find .ensures .0, (refl, refl))
+returns-5 c =
+    let w = c .before .before .find .ensures in
+    (sym (ap foundNumber (c .enum-told4 .given .1)) ∙ w .0, (refl, (refl, (refl, refl))))
 
 returns-6 : tie.Need-returns-6
-unfolding foundNumber
-returns-6 c = (sym (ap foundNumber (c .enum-told5 .given .1)) ∙ c .before .before .find .ensures .0, (refl, refl))
+unfolding foundNumber foundPlace
+returns-6 c =
+    let w = c .before .before .before .find .ensures in
+    let t = c .before .place .given .1 in
+    let e = sym (ap foundNumber t) ∙ w .0 in
+    let p = told-row _ _ _ _ _ _ e (sym (ap foundPlace t) ∙ w .1 .1 .1) in
+    (e, (p .0, (p .1, (refl, refl))))
 
 returns-7 : tie.Need-returns-7
 unfolding foundNumber
-returns-7 c = (sym (ap foundNumber (c .enum-told6 .given .1)) ∙ c .before .before .find .ensures .0, (refl, refl))
+returns-7 c =
+    let w = c .before .before .find .ensures in
+    (sym (ap foundNumber (c .enum-told5 .given .1)) ∙ w .0, (refl, (refl, (refl, refl))))
 
 pub daybook-find-spec : {M : Type 1} → statement M
 daybook-find-spec =
@@ -77,8 +91,8 @@ daybook-find-spec =
     enum-told-2
     enum-told-3
     enum-told-4
+    enum-known-place
     enum-told-5
-    enum-told-6
     returns
     returns-2
     returns-3

@@ -1,58 +1,110 @@
--- The number, and where accepted the place and the length of the part that Row hands back.
+-- Each answer has its number; where accepted, the place and the length of the part that Row hands back, and with 11 the row's place.
 use mathlib.Core.Path.{_≡_, refl, sym, ap, _∙_}
-use Prim.Native.Nat.{ℕ, _<_}
-use native.Mathlib.Omega.{arith}
+use Prim.Native.Nat.{ℕ}
 use lib.ListN.{length}
-use borrow.Author.Tests.{ne-eqb}
 use Rattle.rules.specs.Book.{key, rowStart, rowOf}
-use Rattle.rules.specs.Calls.{rowPart}
+use Rattle.rules.specs.Calls.{rowNumber, rowPart}
 use Rattle.rules.proofs.Accepted.{row-is}
+use Rattle.rules.proofs.Told.{told-row}
+use Rattle.reading.specs.Answers.{rowAnswer, rowAnswerPlace}
 use Rattle.daybook_c.proofs.Given.{accepted-low, key-low}
 use borrow.Author.Needs.{needs}
 use Rattle.daybook_c.proofs.daybook_row.Statement.{statement}
 use Rattle.daybook_c.proofs.daybook_row.Tie as tie
-use Rattle.daybook_c.proofs.daybook_row.Reads as reads
-use Rattle.daybook_c.proofs.daybook_row.Lts as lts
-use Rattle.book.proofs.key.Reads as key-reads
-use Rattle.reading.proofs.row.Reads as row-reads
-use Rattle.reading.proofs.row_number.Reads as row-number-reads
-use Rattle.daybook_c.proofs.place_of_row.Reads as place-of-row-reads
 
--- src/lib.rt:67:9
-row-number-requires : tie.Need-row-number-requires
-row-number-requires c κs = search needs
+-- Row's number where it accepts
+accepted : (c : tie.After-enum-told) → let a = c .before .before .before .before .args in rowNumber (a .book .now) (a .d) (a .e) (a .i) ≡ 0
+unfolding rowAnswer
+accepted c = sym (c .before .before .row-answer .ensures .0) ∙ ap rowAnswer (c .enum-told .given .1)
 
--- src/lib.rt:69:9
-returns : tie.Need-returns
-returns c = let n = ne-eqb (c .before .row-number .result) 0 (c .if1 .taken) in (c .before .row-number .ensures, (rw n, rw n))
+row-answer-requires : tie.Need-row-answer-requires
+row-answer-requires c κs = search needs
 
--- src/lib.rt:71:9
+enum-told : tie.Need-enum-told
+enum-told c = search needs
+
 row-requires : tie.Need-row-requires
 row-requires c κs = search needs
 
--- src/lib.rt:73:33
 key-requires : tie.Need-key-requires
-key-requires c κs = let a = accepted-low _ _ _ _ (sym (c .before .before .row-number .ensures) ∙ c .before .if1 .left) in (a .0, a .1)
+key-requires c κs = accepted-low _ _ _ _ (accepted (c .before))
 
--- src/lib.rt:73:14
 place-of-row-requires : tie.Need-place-of-row-requires
-place-of-row-requires c κs = let a = accepted-low _ _ _ _ (sym (c .before .before .before .row-number .ensures) ∙ c .before .before .if1 .left) in rw (c .key .ensures) (key-low _ _ (a .0) (a .1))
+place-of-row-requires c κs = let a = accepted-low _ _ _ _ (accepted (c .before .before)) in rw (c .key .ensures) (key-low _ _ (a .0) (a .1))
 
--- src/lib.rt:54:1
+enum-told-2 : tie.Need-enum-told-2
+enum-told-2 c = search needs
+
+enum-told-3 : tie.Need-enum-told-3
+enum-told-3 c = search needs
+
+enum-told-4 : tie.Need-enum-told-4
+enum-told-4 c = search needs
+
+enum-told-5 : tie.Need-enum-told-5
+enum-told-5 c = search needs
+
+enum-known-place : tie.Need-enum-known-place
+enum-known-place c = search needs
+
+returns : tie.Need-returns
+returns c =
+    let r = c .before .before in
+    let a = r .before .before .before .before .before .args in
+    let z = accepted (r .before) in
+    let p : rowPart (a .book .now) (a .d) (a .e) (a .i) ≡ rowOf (a .book .now) (key (a .d) (a .e)) (a .i) = row-is (a .book .now) (a .d) (a .e) (a .i) ∙ rw z in
+    (sym z, (refl, (refl, (c .place-of-row .ensures ∙ ap (λ (k : ℕ). rowStart (a .book .now) k (a .i)) (c .before .key .ensures), ap length (r .row .ensures .words ∙ p)))))
+
 returns-2 : tie.Need-returns-2
-returns-2 c = let s = c .before .before .before .before .before .before in
-    let z = sym (c .before .before .before .before .row-number .ensures) ∙ c .before .before .before .if1 .left in
-    let p : rowPart (s .args .book .now) (s .args .d) (s .args .e) (s .args .i) ≡ rowOf (s .args .book .now) (key (s .args .d) (s .args .e)) (s .args .i)
-    = row-is (s .args .book .now) (s .args .d) (s .args .e) (s .args .i) ∙ rw z in
-    (sym z, (c .place-of-row .ensures ∙ ap (λ (k : ℕ). rowStart (s .args .book .now) k (s .args .i)) (c .before .key .ensures), ap length (c .before .before .row .ensures .words ∙ p)))
+unfolding rowAnswer
+returns-2 c =
+    let w = c .before .before .row-answer .ensures in
+    (sym (ap rowAnswer (c .enum-told2 .given .1)) ∙ w .0, (refl, (refl, (refl, refl))))
+
+returns-3 : tie.Need-returns-3
+unfolding rowAnswer
+returns-3 c =
+    let w = c .before .before .row-answer .ensures in
+    (sym (ap rowAnswer (c .enum-told3 .given .1)) ∙ w .0, (refl, (refl, (refl, refl))))
+
+returns-4 : tie.Need-returns-4
+unfolding rowAnswer
+returns-4 c =
+    let w = c .before .before .row-answer .ensures in
+    (sym (ap rowAnswer (c .enum-told4 .given .1)) ∙ w .0, (refl, (refl, (refl, refl))))
+
+returns-5 : tie.Need-returns-5
+unfolding rowAnswer
+returns-5 c =
+    let w = c .before .before .row-answer .ensures in
+    (sym (ap rowAnswer (c .enum-told5 .given .1)) ∙ w .0, (refl, (refl, (refl, refl))))
+
+returns-6 : tie.Need-returns-6
+unfolding rowAnswer rowAnswerPlace
+returns-6 c =
+    let w = c .before .before .before .row-answer .ensures in
+    let t = c .before .place .given .1 in
+    let e = sym (ap rowAnswer t) ∙ w .0 in
+    let p = told-row _ _ _ _ _ _ e (sym (ap rowAnswerPlace t) ∙ w .1) in
+    (e, (p .0, (p .1, (refl, refl))))
 
 pub daybook-row-spec : {M : Type 1} → statement M
 daybook-row-spec =
     tie.close
     (tie.spec
-    row-number-requires
-    returns
+    row-answer-requires
+    enum-told
     row-requires
     key-requires
     place-of-row-requires
-    returns-2)
+    enum-told-2
+    enum-told-3
+    enum-told-4
+    enum-told-5
+    enum-known-place
+    returns
+    returns-2
+    returns-3
+    returns-4
+    returns-5
+    returns-6)

@@ -1,19 +1,20 @@
 -- Each refusal in its order, then all that is asked for or nothing.
-use mathlib.Core.Path.{sym, _∙_}
+use mathlib.Core.Path.{refl, sym, _∙_}
 use mathlib.Core.Bool.{true, false}
 use Prim.Native.Nat.{_≤_}
 use native.Mathlib.Omega.{arith}
+use borrow.Author.Needs.{needs}
 use borrow.Author.Tests.{not-true, not-false}
 use Rattle.rules.specs.Book.{dim}
 use Rattle.rules.proofs.Needs.{key-div, key-mod}
 use Rattle.rules.proofs.FrameRule.{framed}
 use Rattle.making.specs.Growth.{wanted, answered}
-use Rattle.daybook.specs.Answers.{askedNumber}
+use Rattle.daybook.specs.Answers.{askedNumber, askedPlace}
 use Rattle.daybook.proofs.MakeCases.{ask-first, ask-second, ask-whole}
-use borrow.Author.Needs.{needs}
 use Rattle.daybook.proofs.asks.ask_right.Statement.{statement}
 use Rattle.daybook.proofs.asks.ask_right.Tie as tie
 
+-- ==== the dimensions
 dim-requires : tie.Need-dim-requires
 dim-requires c κs = search needs
 
@@ -21,102 +22,82 @@ same-length : tie.Need-same-length
 same-length c = search needs
 
 returns : tie.Need-returns
-unfolding askedNumber
+unfolding askedNumber askedPlace
 returns c =
     let s = c .before .before .before .before in
-    let ws = s .args .book .now in
-    let d = s .args .d in
-    let e = s .args .e in
-    let f = s .pre .0 in
-    let r = s .pre .1 in
-    let t = c .before .dim .ensures in
-    let g = ask-first ws d e f r (rw t at (c .if1 .taken)) in
-    (g .number-is, g .words-are)
+    let a = s .args in
+    let g = ask-first (a .book .now) (a .d) (a .e) (s .pre .0) (s .pre .1) (rw (c .before .dim .ensures) at (c .if1 .taken)) in
+    (g .number-is, (refl, g .words-are))
 
 same-length-2 : tie.Need-same-length-2
 same-length-2 c = search needs
 
 returns-2 : tie.Need-returns-2
-unfolding askedNumber
+unfolding askedNumber askedPlace
 returns-2 c =
     let s = c .before .before .before .before .before in
-    let ws = s .args .book .now in
-    let d = s .args .d in
-    let e = s .args .e in
-    let f = s .pre .0 in
-    let r = s .pre .1 in
-    let t = c .before .before .dim .ensures in
-    let g = ask-second ws d e f r (rw t at (c .if2 .taken)) in
-    (g .number-is, g .words-are)
+    let a = s .args in
+    let g = ask-second (a .book .now) (a .d) (a .e) (s .pre .0) (s .pre .1) (rw (c .before .before .dim .ensures) at (c .if2 .taken)) in
+    (g .number-is, (refl, g .words-are))
 
+abbrev start : tie.Else2 → tie.Start
+start c = c .before .before .before .before .before
+
+first : (c : tie.Else2) → let a = start c .args in a .d ≤ dim (a .book .now)
+first c = rw (c .before .before .dim .ensures) at (c .before .if1 .left)
+
+second : (c : tie.Else2) → let a = start c .args in a .e ≤ dim (a .book .now)
+second c = rw (c .before .before .dim .ensures) at (c .if2 .left)
+
+high : (c : tie.Else2) → dim (start c .args .book .now) ≤ 3
+high c = framed _ (start c .pre .0) .high
+
+-- ==== the relation
 key-requires : tie.Need-key-requires
 key-requires c κs =
-    let s = c .before .before .before .before .before .before in
-    let ws = s .args .book .now in
-    let d = s .args .d in
-    let e = s .args .e in
-    let f = s .pre .0 in
-    let r = s .pre .1 in
-    let t = c .before .before .before .dim .ensures in
-    let a : d ≤ dim ws = rw t at (c .before .before .if1 .left) in
-    let b : e ≤ dim ws = rw t at (c .before .if2 .left) in
-    let h = framed ws f .high in
+    let t = c .before in
+    let x = first t in
+    let y = second t in
+    let h = high t in
     (omega arith, omega arith)
 
 ask-for-requires : tie.Need-ask-for-requires
 ask-for-requires c κs =
-    let s = c .before .before .before .before .before .before .before in
-    let ws = s .args .book .now in
+    let t = c .before .before in
+    let s = start t in
     let d = s .args .d in
     let e = s .args .e in
-    let f = s .pre .0 in
-    let r = s .pre .1 in
-    let t = c .before .before .before .before .dim .ensures in
-    let a : d ≤ dim ws = rw t at (c .before .before .before .if1 .left) in
-    let b : e ≤ dim ws = rw t at (c .before .before .if2 .left) in
-    let k = c .key .ensures in
-    let h = framed ws f .high in
-    rw k (record { frame = f; rows = r; first = rw (key-div d e (omega arith)) a; second = rw (key-mod d e (omega arith)) b })
+    let y = second t in
+    let h = high t in
+    rw (c .key .ensures) (record { frame = s .pre .0; rows = s .pre .1; first = rw (key-div d e (omega arith)) (first t); second = rw (key-mod d e (omega arith)) y })
 
 same-length-3 : tie.Need-same-length-3
 same-length-3 c = search needs
 
 returns-3 : tie.Need-returns-3
-unfolding askedNumber wanted answered
+unfolding askedNumber askedPlace wanted answered
 returns-3 c =
-    let s = c .before .before .before .before .before .before .before .before .before .before .before in
-    let ws = s .args .book .now in
-    let d = s .args .d in
-    let e = s .args .e in
-    let f = s .pre .0 in
-    let r = s .pre .1 in
-    let t = c .before .before .before .before .before .before .before .before .dim .ensures in
-    let a : d ≤ dim ws = rw t at (c .before .before .before .before .before .before .before .if1 .left) in
-    let b : e ≤ dim ws = rw t at (c .before .before .before .before .before .before .if2 .left) in
-    let k = c .before .before .before .before .key .ensures in
-    let w = rw k at (c .before .before .before .ask-for .ensures) in
-    let g = ask-whole ws d e f r a b false (sym (not-true _ (c .if3 .taken)) ∙ w .0) _ (w .1) in
-    (g .number-is, g .words-are)
+    let k = c .before .before .before in
+    let t = k .before .before .before in
+    let s = start t in
+    let a = s .args in
+    let w = rw (k .before .key .ensures) at (k .ask-for .ensures) in
+    let g = ask-whole (a .book .now) (a .d) (a .e) (s .pre .0) (s .pre .1) (first t) (second t) false (sym (not-true _ (c .if3 .taken)) ∙ w .0) _ (w .1) in
+    (g .number-is, (refl, g .words-are))
 
 same-length-4 : tie.Need-same-length-4
 same-length-4 c = search needs
 
 returns-4 : tie.Need-returns-4
-unfolding askedNumber wanted answered
+unfolding askedNumber askedPlace wanted answered
 returns-4 c =
-    let s = c .before .before .before .before .before .before .before .before .before .before .before in
-    let ws = s .args .book .now in
-    let d = s .args .d in
-    let e = s .args .e in
-    let f = s .pre .0 in
-    let r = s .pre .1 in
-    let t = c .before .before .before .before .before .before .before .before .dim .ensures in
-    let a : d ≤ dim ws = rw t at (c .before .before .before .before .before .before .before .if1 .left) in
-    let b : e ≤ dim ws = rw t at (c .before .before .before .before .before .before .if2 .left) in
-    let k = c .before .before .before .before .key .ensures in
-    let w = rw k at (c .before .before .before .ask-for .ensures) in
-    let g = ask-whole ws d e f r a b true (sym (not-false _ (c .if3 .left)) ∙ w .0) _ (w .1) in
-    (g .number-is, g .words-are)
+    let k = c .before .before .before in
+    let t = k .before .before .before in
+    let s = start t in
+    let a = s .args in
+    let w = rw (k .before .key .ensures) at (k .ask-for .ensures) in
+    let g = ask-whole (a .book .now) (a .d) (a .e) (s .pre .0) (s .pre .1) (first t) (second t) true (sym (not-false _ (c .if3 .left)) ∙ w .0) _ (w .1) in
+    (g .number-is, (refl, g .words-are))
 
 pub ask-right-spec : {M : Type 1} → statement M
 ask-right-spec =

@@ -59,7 +59,7 @@ loop-again : tie.Need-loop-again Inv-loop μ-loop
 loop-again c =
     let t = c .before .before .before .before .before .before .before .before .loop in
     let a = c .before .before .before .ask-right .ensures in
-    turn-more _ _ _ (t .pair) _ _ (t .inv) (omega arith) (omega arith) _ (c .asked-number .ensures ∙ a .0) _ (a .1)
+    turn-more _ _ _ (t .pair) _ _ (t .inv) (omega arith) (omega arith) _ (c .asked-number .ensures ∙ a .0) _ (a .1 .1)
 
 same-length : tie.Need-same-length Inv-loop μ-loop
 same-length c = c .before .loop .inv .long

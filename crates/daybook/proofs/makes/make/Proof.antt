@@ -1,251 +1,227 @@
 -- Each refusal in its order, then the relation made or no room for it.
 use mathlib.Core.Path.{_≡_, refl, sym, ap, _∙_}
 use mathlib.Core.Bool.{true, false}
-use Prim.Native.Nat.{_≤_, _<_}
+use mathlib.Core.Option.{none}
+use Prim.Native.Nat.{_≤_}
 use native.Mathlib.Omega.{arith}
-use borrow.Author.Tests.{not-true, not-false}
-use Rattle.rules.specs.Book.{dim, key, held}
-use Rattle.making.specs.Growth.{grown}
-use Rattle.daybook.specs.Answers.{madeNumber}
-use Rattle.rules.proofs.Tests.{broken, unbroken}
-use Rattle.rules.proofs.FrameRule.{framed}
-use Rattle.daybook.proofs.MakeCases.{Makes, make-frame, make-rows, make-first, make-second, make-held, make-need, make-whole}
 use borrow.Author.Needs.{needs}
+use borrow.Author.Tests.{not-true, not-false}
+use Rattle.rules.specs.Book.{dim, key, held, frameRight, rowsRight}
+use Rattle.rules.specs.Broken.{brokenAt, told}
+use Rattle.rules.specs.Calls.{makeNumber}
+use Rattle.rules.proofs.FrameRule.{framed}
+use Rattle.rules.proofs.Told.{none-right, some-wrong, told-eleven, untold-as, untold-none}
+use Rattle.book.proofs.Flags.{off, on}
+use Rattle.rows.specs.Answers.{rowsPlace}
+use Rattle.making.specs.Growth.{Makable, grown}
+use Rattle.daybook.specs.Answers.{madeNumber, madePlace}
+use Rattle.daybook.proofs.MakeCases.{make-frame, make-rows, make-first, make-second, make-held, make-need, make-whole}
 use Rattle.daybook.proofs.makes.make.Statement.{statement}
 use Rattle.daybook.proofs.makes.make.Tie as tie
-use Rattle.daybook.proofs.makes.make.Reads as reads
-use Rattle.daybook.proofs.makes.make.Lts as lts
-use Rattle.book.proofs.dim.Reads as dim-reads
-use Rattle.frame.proofs.frame_right.Reads as frame-right-reads
-use Rattle.book.proofs.held.Reads as held-reads
-use Rattle.book.proofs.key.Reads as key-reads
-use Rattle.rows.proofs.rows_right.Reads as rows-right-reads
-use Rattle.daybook.proofs.makes.needs_held.Reads as needs-held-reads
-use Rattle.making.proofs.add.Reads as add-reads
 
--- src/makes.rt:34:9
+-- ==== the frame
 frame-right-requires : tie.Need-frame-right-requires
 frame-right-requires c κs = search needs
 
--- src/makes.rt:35:9
 same-length : tie.Need-same-length
 same-length c = search needs
 
--- src/makes.rt:35:9
 returns : tie.Need-returns
-unfolding madeNumber
+unfolding madeNumber madePlace
 returns c =
-    let s = c .before .before .before .before in
-    let ws = s .args .book .now in
-    let d = s .args .d in
-    let e = s .args .e in
-    let g = make-frame ws d e (broken _ _ (c .before .frame-right .ensures) (c .if1 .taken)) in
-    (g .number-is, g .words-are)
+    let a = c .before .before .before .before .args in
+    let g = make-frame (a .book .now) (a .d) (a .e) (off (c .before .frame-right .ensures) (c .if1 .taken)) in
+    (g .number-is, (untold-as 10 _ _ refl (g .number-is), g .words-are))
 
--- src/makes.rt:37:9
-rows-right-requires : tie.Need-rows-right-requires
-rows-right-requires c κs = unbroken _ _ (c .before .before .frame-right .ensures) (c .before .if1 .left)
+abbrev start : tie.Else1 → tie.Start
+start c = c .before .before .before .before
 
--- src/makes.rt:38:9
+frame-right : (c : tie.Else1) → frameRight (start c .args .book .now) ≡ true
+frame-right c = on (c .before .frame-right .ensures) (c .if1 .left)
+
+-- ==== the rows
+broken-at-requires : tie.Need-broken-at-requires
+broken-at-requires c κs = frame-right (c .before)
+
+enum-known-place : tie.Need-enum-known-place
+enum-known-place c = search needs
+
 same-length-2 : tie.Need-same-length-2
 same-length-2 c = search needs
 
--- src/makes.rt:38:9
 returns-2 : tie.Need-returns-2
-unfolding madeNumber
+unfolding madeNumber madePlace rowsPlace
 returns-2 c =
-    let s = c .before .before .before .before .before .before .before in
-    let ws = s .args .book .now in
-    let d = s .args .d in
-    let e = s .args .e in
-    let f = unbroken _ _ (c .before .before .before .before .frame-right .ensures) (c .before .before .before .if1 .left) in
-    let g = make-rows ws d e f (broken _ _ (c .before .rows-right .ensures) (c .if2 .taken)) in
-    (g .number-is, g .words-are)
+    let p = c .before in
+    let b = p .before .before in
+    let f = b .before .before in
+    let a = start f .args in
+    let q = sym (b .broken-at .ensures) ∙ ap rowsPlace (p .place .given .1) in
+    let g = make-rows (a .book .now) (a .d) (a .e) (frame-right f) (some-wrong _ (frame-right f) _ q) in
+    (g .number-is, (sym q ∙ told-eleven _ _ (g .number-is), g .words-are))
 
--- src/makes.rt:40:9
+enum-told : tie.Need-enum-told
+enum-told c = search needs
+
+abbrev start-2 : tie.After-enum-told → tie.Start
+start-2 c = start (c .before .before .before .before)
+
+found : (c : tie.After-enum-told) → brokenAt (start-2 c .args .book .now) ≡ none
+unfolding rowsPlace
+found c = sym (c .before .before .broken-at .ensures) ∙ ap rowsPlace (c .enum-told .given .1)
+
+untold : (c : tie.After-enum-told) → let a = start-2 c .args in none ≡ told (makeNumber (a .book .now) (a .d) (a .e)) (brokenAt (a .book .now))
+untold c = untold-none _ _ (found c)
+
+frame : (c : tie.After-enum-told) → frameRight (start-2 c .args .book .now) ≡ true
+frame c = frame-right (c .before .before .before .before)
+
+rows : (c : tie.After-enum-told) → rowsRight (start-2 c .args .book .now) ≡ true
+rows c = none-right _ (frame c) (found c)
+
+-- ==== the dimensions
 dim-requires : tie.Need-dim-requires
 dim-requires c κs = search needs
 
--- src/makes.rt:42:9
 same-length-3 : tie.Need-same-length-3
 same-length-3 c = search needs
 
--- src/makes.rt:42:9
 returns-3 : tie.Need-returns-3
-unfolding madeNumber
+unfolding madeNumber madePlace
 returns-3 c =
-    let s = c .before .before .before .before .before .before .before .before .before .before in
-    let ws = s .args .book .now in
-    let d = s .args .d in
-    let e = s .args .e in
-    let f = unbroken _ _ (c .before .before .before .before .before .before .before .frame-right .ensures) (c .before .before .before .before .before .before .if1 .left) in
-    let r = unbroken _ _ (c .before .before .before .before .rows-right .ensures) (c .before .before .before .if2 .left) in
-    let t = c .before .dim .ensures in
-    let g = make-first ws d e f r (rw t at (c .if3 .taken)) in
-    (g .number-is, g .words-are)
+    let r = c .before .before .before in
+    let a = start-2 r .args in
+    let g = make-first (a .book .now) (a .d) (a .e) (frame r) (rows r) (rw (c .before .dim .ensures) at (c .if2 .taken)) in
+    (g .number-is, (untold r, g .words-are))
 
--- src/makes.rt:45:9
 same-length-4 : tie.Need-same-length-4
 same-length-4 c = search needs
 
--- src/makes.rt:45:9
 returns-4 : tie.Need-returns-4
-unfolding madeNumber
+unfolding madeNumber madePlace
 returns-4 c =
-    let s = c .before .before .before .before .before .before .before .before .before .before .before in
-    let ws = s .args .book .now in
-    let d = s .args .d in
-    let e = s .args .e in
-    let f = unbroken _ _ (c .before .before .before .before .before .before .before .before .frame-right .ensures) (c .before .before .before .before .before .before .before .if1 .left) in
-    let r = unbroken _ _ (c .before .before .before .before .before .rows-right .ensures) (c .before .before .before .before .if2 .left) in
-    let t = c .before .before .dim .ensures in
-    let a : d ≤ dim ws = rw t at (c .before .if3 .left) in
-    let g = make-second ws d e f r (rw t at (c .if4 .taken)) in
-    (g .number-is, g .words-are)
+    let t = c .before .before in
+    let r = t .before .before in
+    let a = start-2 r .args in
+    let g = make-second (a .book .now) (a .d) (a .e) (frame r) (rows r) (rw (t .dim .ensures) at (c .if3 .taken)) in
+    (g .number-is, (untold r, g .words-are))
 
--- src/makes.rt:47:25
+abbrev right : tie.Else3 → tie.After-enum-told
+right c = c .before .before .before .before
+
+abbrev start-3 : tie.Else3 → tie.Start
+start-3 c = start-2 (right c)
+
+first : (c : tie.Else3) → let a = start-3 c .args in a .d ≤ dim (a .book .now)
+first c = rw (c .before .before .dim .ensures) at (c .before .if2 .left)
+
+second : (c : tie.Else3) → let a = start-3 c .args in a .e ≤ dim (a .book .now)
+second c = rw (c .before .before .dim .ensures) at (c .if3 .left)
+
+high : (c : tie.Else3) → dim (start-3 c .args .book .now) ≤ 3
+high c = framed _ (frame (right c)) .high
+
+-- ==== whether it is held
 key-requires : tie.Need-key-requires
 key-requires c κs =
-    let s = c .before .before .before .before .before .before .before .before .before .before .before .before in
-    let ws = s .args .book .now in
-    let d = s .args .d in
-    let e = s .args .e in
-    let f = unbroken _ _ (c .before .before .before .before .before .before .before .before .before .frame-right .ensures) (c .before .before .before .before .before .before .before .before .if1 .left) in
-    let r = unbroken _ _ (c .before .before .before .before .before .before .rows-right .ensures) (c .before .before .before .before .before .if2 .left) in
-    let t = c .before .before .before .dim .ensures in
-    let a : d ≤ dim ws = rw t at (c .before .before .if3 .left) in
-    let b : e ≤ dim ws = rw t at (c .before .if4 .left) in
-    let h = framed ws f .high in
+    let t = c .before in
+    let x = first t in
+    let y = second t in
+    let h = high t in
     (omega arith, omega arith)
 
--- src/makes.rt:47:8
 held-requires : tie.Need-held-requires
 held-requires c κs = search needs
 
--- src/makes.rt:48:9
 same-length-5 : tie.Need-same-length-5
 same-length-5 c = search needs
 
--- src/makes.rt:48:9
 returns-5 : tie.Need-returns-5
-unfolding madeNumber
+unfolding madeNumber madePlace
 returns-5 c =
-    let s = c .before .before .before .before .before .before .before .before .before .before .before .before .before .before .before in
-    let ws = s .args .book .now in
-    let d = s .args .d in
-    let e = s .args .e in
-    let f = unbroken _ _ (c .before .before .before .before .before .before .before .before .before .before .before .before .frame-right .ensures) (c .before .before .before .before .before .before .before .before .before .before .before .if1 .left) in
-    let r = unbroken _ _ (c .before .before .before .before .before .before .before .before .before .rows-right .ensures) (c .before .before .before .before .before .before .before .before .if2 .left) in
-    let t = c .before .before .before .before .before .before .dim .ensures in
-    let a : d ≤ dim ws = rw t at (c .before .before .before .before .before .if3 .left) in
-    let b : e ≤ dim ws = rw t at (c .before .before .before .before .if4 .left) in
-    let k = c .before .before .key .ensures in
-    let g = make-held ws d e f r a b (ap (held ws) (sym k) ∙ sym (c .before .held .ensures) ∙ c .if5 .taken) in
-    (g .number-is, g .words-are)
+    let h = c .before in
+    let t = h .before .before .before in
+    let r = right t in
+    let a = start-3 t .args in
+    let g = make-held (a .book .now) (a .d) (a .e) (frame r) (rows r) (first t) (second t) (ap (held _) (sym (h .before .key .ensures)) ∙ sym (h .held .ensures) ∙ c .if4 .taken) in
+    (g .number-is, (untold r, g .words-are))
 
--- src/makes.rt:50:9
+abbrev inside : tie.Else4 → tie.Else3
+inside c = c .before .before .before .before
+
+new : (c : tie.Else4) → let a = start-3 (inside c) .args in held (a .book .now) (key (a .d) (a .e)) ≡ false
+new c = ap (held _) (sym (c .before .before .key .ensures)) ∙ sym (c .before .held .ensures) ∙ c .if4 .left
+
+-- ==== what it is made from
 needs-held-requires : tie.Need-needs-held-requires
 needs-held-requires c κs =
-    let s = c .before .before .before .before .before .before .before .before .before .before .before .before .before .before .before .before in
-    let ws = s .args .book .now in
-    let d = s .args .d in
-    let e = s .args .e in
-    let f = unbroken _ _ (c .before .before .before .before .before .before .before .before .before .before .before .before .before .frame-right .ensures) (c .before .before .before .before .before .before .before .before .before .before .before .before .if1 .left) in
-    let r = unbroken _ _ (c .before .before .before .before .before .before .before .before .before .before .rows-right .ensures) (c .before .before .before .before .before .before .before .before .before .if2 .left) in
-    let t = c .before .before .before .before .before .before .before .dim .ensures in
-    let a : d ≤ dim ws = rw t at (c .before .before .before .before .before .before .if3 .left) in
-    let b : e ≤ dim ws = rw t at (c .before .before .before .before .before .if4 .left) in
-    let k = c .before .before .before .key .ensures in
-    let o : held ws (key d e) ≡ false = ap (held ws) (sym k) ∙ sym (c .before .before .held .ensures) ∙ c .before .if5 .left in
-    let h = framed ws f .high in
+    let t = inside (c .before) in
+    let x = first t in
+    let y = second t in
+    let h = high t in
     (omega arith, (omega arith, h))
 
--- src/makes.rt:51:9
 same-length-6 : tie.Need-same-length-6
 same-length-6 c = search needs
 
--- src/makes.rt:51:9
 returns-6 : tie.Need-returns-6
-unfolding madeNumber
+unfolding madeNumber madePlace
 returns-6 c =
-    let s = c .before .before .before .before .before .before .before .before .before .before .before .before .before .before .before .before .before .before in
-    let ws = s .args .book .now in
-    let d = s .args .d in
-    let e = s .args .e in
-    let f = unbroken _ _ (c .before .before .before .before .before .before .before .before .before .before .before .before .before .before .before .frame-right .ensures) (c .before .before .before .before .before .before .before .before .before .before .before .before .before .before .if1 .left) in
-    let r = unbroken _ _ (c .before .before .before .before .before .before .before .before .before .before .before .before .rows-right .ensures) (c .before .before .before .before .before .before .before .before .before .before .before .if2 .left) in
-    let t = c .before .before .before .before .before .before .before .before .before .dim .ensures in
-    let a : d ≤ dim ws = rw t at (c .before .before .before .before .before .before .before .before .if3 .left) in
-    let b : e ≤ dim ws = rw t at (c .before .before .before .before .before .before .before .if4 .left) in
-    let k = c .before .before .before .before .before .key .ensures in
-    let o : held ws (key d e) ≡ false = ap (held ws) (sym k) ∙ sym (c .before .before .before .before .held .ensures) ∙ c .before .before .before .if5 .left in
-    let g = make-need ws d e f r a b o (broken _ _ (c .before .needs-held .ensures) (c .if6 .taken)) in
-    (g .number-is, g .words-are)
+    let n = c .before .before .before in
+    let t = inside n in
+    let r = right t in
+    let a = start-3 t .args in
+    let g = make-need (a .book .now) (a .d) (a .e) (frame r) (rows r) (first t) (second t) (new n) (off (c .before .needs-held .ensures) (c .if5 .taken)) in
+    (g .number-is, (untold r, g .words-are))
 
--- src/makes.rt:53:9
+abbrev into : tie.Else5 → tie.Else3
+into c = inside (c .before .before .before)
+
+makable : (c : tie.Else5) → let a = start-3 (into c) .args in Makable (a .book .now) (a .d) (a .e)
+makable c =
+    let t = into c in
+    record {
+      frame = frame (right t);
+      rows = rows (right t);
+      first = first t;
+      second = second t;
+      new = new (c .before .before .before);
+      sources = on (c .before .needs-held .ensures) (c .if5 .left);
+    }
+
+-- ==== the relation
 add-requires : tie.Need-add-requires
-add-requires c κs =
-    let s = c .before .before .before .before .before .before .before .before .before .before .before .before .before .before .before .before .before .before .before in
-    let ws = s .args .book .now in
-    let d = s .args .d in
-    let e = s .args .e in
-    let f = unbroken _ _ (c .before .before .before .before .before .before .before .before .before .before .before .before .before .before .before .before .frame-right .ensures) (c .before .before .before .before .before .before .before .before .before .before .before .before .before .before .before .if1 .left) in
-    let r = unbroken _ _ (c .before .before .before .before .before .before .before .before .before .before .before .before .before .rows-right .ensures) (c .before .before .before .before .before .before .before .before .before .before .before .before .if2 .left) in
-    let t = c .before .before .before .before .before .before .before .before .before .before .dim .ensures in
-    let a : d ≤ dim ws = rw t at (c .before .before .before .before .before .before .before .before .before .if3 .left) in
-    let b : e ≤ dim ws = rw t at (c .before .before .before .before .before .before .before .before .if4 .left) in
-    let k = c .before .before .before .before .before .before .key .ensures in
-    let o : held ws (key d e) ≡ false = ap (held ws) (sym k) ∙ sym (c .before .before .before .before .before .held .ensures) ∙ c .before .before .before .before .if5 .left in
-    let m = unbroken _ _ (c .before .before .needs-held .ensures) (c .before .if6 .left) in
-    record { frame = f; rows = r; first = a; second = b; new = o; sources = m }
+add-requires c κs = makable (c .before)
 
--- src/makes.rt:54:9
 same-length-7 : tie.Need-same-length-7
 same-length-7 c = search needs
 
--- src/makes.rt:54:9
 returns-7 : tie.Need-returns-7
-unfolding madeNumber grown
+unfolding madeNumber madePlace grown
 returns-7 c =
-    let s = c .before .before .before .before .before .before .before .before .before .before .before .before .before .before .before .before .before .before .before .before .before .before .before in
-    let ws = s .args .book .now in
-    let d = s .args .d in
-    let e = s .args .e in
-    let f = unbroken _ _ (c .before .before .before .before .before .before .before .before .before .before .before .before .before .before .before .before .before .before .before .before .frame-right .ensures) (c .before .before .before .before .before .before .before .before .before .before .before .before .before .before .before .before .before .before .before .if1 .left) in
-    let r = unbroken _ _ (c .before .before .before .before .before .before .before .before .before .before .before .before .before .before .before .before .before .rows-right .ensures) (c .before .before .before .before .before .before .before .before .before .before .before .before .before .before .before .before .if2 .left) in
-    let t = c .before .before .before .before .before .before .before .before .before .before .before .before .before .before .dim .ensures in
-    let a : d ≤ dim ws = rw t at (c .before .before .before .before .before .before .before .before .before .before .before .before .before .if3 .left) in
-    let b : e ≤ dim ws = rw t at (c .before .before .before .before .before .before .before .before .before .before .before .before .if4 .left) in
-    let k = c .before .before .before .before .before .before .before .before .before .before .key .ensures in
-    let o : held ws (key d e) ≡ false = ap (held ws) (sym k) ∙ sym (c .before .before .before .before .before .before .before .before .before .held .ensures) ∙ c .before .before .before .before .before .before .before .before .if5 .left in
-    let m = unbroken _ _ (c .before .before .before .before .before .before .needs-held .ensures) (c .before .before .before .before .before .if6 .left) in
-    let q = sym (not-true _ (c .if7 .taken)) ∙ c .before .before .before .add .ensures .0 in
-    let g = make-whole ws d e f r a b o m false q _ (c .before .before .before .add .ensures .1) in
-    (g .number-is, g .words-are)
+    let k = c .before .before .before in
+    let m = k .before .before in
+    let t = into m in
+    let a = start-3 t .args in
+    let f = makable m in
+    let w = k .add .ensures in
+    let g = make-whole (a .book .now) (a .d) (a .e) (f .frame) (f .rows) (f .first) (f .second) (f .new) (f .sources) false (sym (not-true _ (c .if6 .taken)) ∙ w .0) _ (w .1) in
+    (g .number-is, (untold (right t), g .words-are))
 
--- src/makes.rt:30:1
 same-length-8 : tie.Need-same-length-8
 same-length-8 c = search needs
 
--- src/makes.rt:30:1
 returns-8 : tie.Need-returns-8
-unfolding madeNumber grown
+unfolding madeNumber madePlace grown
 returns-8 c =
-    let s = c .before .before .before .before .before .before .before .before .before .before .before .before .before .before .before .before .before .before .before .before .before .before .before in
-    let ws = s .args .book .now in
-    let d = s .args .d in
-    let e = s .args .e in
-    let f = unbroken _ _ (c .before .before .before .before .before .before .before .before .before .before .before .before .before .before .before .before .before .before .before .before .frame-right .ensures) (c .before .before .before .before .before .before .before .before .before .before .before .before .before .before .before .before .before .before .before .if1 .left) in
-    let r = unbroken _ _ (c .before .before .before .before .before .before .before .before .before .before .before .before .before .before .before .before .before .rows-right .ensures) (c .before .before .before .before .before .before .before .before .before .before .before .before .before .before .before .before .if2 .left) in
-    let t = c .before .before .before .before .before .before .before .before .before .before .before .before .before .before .dim .ensures in
-    let a : d ≤ dim ws = rw t at (c .before .before .before .before .before .before .before .before .before .before .before .before .before .if3 .left) in
-    let b : e ≤ dim ws = rw t at (c .before .before .before .before .before .before .before .before .before .before .before .before .if4 .left) in
-    let k = c .before .before .before .before .before .before .before .before .before .before .key .ensures in
-    let o : held ws (key d e) ≡ false = ap (held ws) (sym k) ∙ sym (c .before .before .before .before .before .before .before .before .before .held .ensures) ∙ c .before .before .before .before .before .before .before .before .if5 .left in
-    let m = unbroken _ _ (c .before .before .before .before .before .before .needs-held .ensures) (c .before .before .before .before .before .if6 .left) in
-    let q = sym (not-false _ (c .if7 .left)) ∙ c .before .before .before .add .ensures .0 in
-    let g = make-whole ws d e f r a b o m true q _ (c .before .before .before .add .ensures .1) in
-    (g .number-is, g .words-are)
+    let k = c .before .before .before in
+    let m = k .before .before in
+    let t = into m in
+    let a = start-3 t .args in
+    let f = makable m in
+    let w = k .add .ensures in
+    let g = make-whole (a .book .now) (a .d) (a .e) (f .frame) (f .rows) (f .first) (f .second) (f .new) (f .sources) true (sym (not-false _ (c .if6 .left)) ∙ w .0) _ (w .1) in
+    (g .number-is, (untold (right t), g .words-are))
 
 pub make-spec : {M : Type 1} → statement M
 make-spec =
@@ -254,9 +230,11 @@ make-spec =
     frame-right-requires
     same-length
     returns
-    rows-right-requires
+    broken-at-requires
+    enum-known-place
     same-length-2
     returns-2
+    enum-told
     dim-requires
     same-length-3
     returns-3

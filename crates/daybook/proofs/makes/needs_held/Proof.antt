@@ -1,13 +1,11 @@
 -- The needs passed are all held; the first that is not decides.
-use mathlib.Core.Path.{_≡_, refl, sym, ap, _∙_}
-use mathlib.Core.Bool.{true, not}
-use mathlib.Core.List.{List}
+use mathlib.Core.Path.{_≡_, sym, ap, _∙_}
+use mathlib.Core.Bool.{true}
 use Prim.Native.Nat.{ℕ, _-_, _≤_, _<_}
 use native.Mathlib.Omega.{arith}
 use lib.ListN.{length, getD, take}
-use borrow.Author.Count.{below-none, below-more}
+use borrow.Author.Count.{below-more}
 use borrow.Author.Needs.{needs}
-use Rattle.rules.specs.Lists.{allOf, filled}
 use Rattle.rules.specs.Book as rule
 use Rattle.rules.specs.Book.{held}
 use Rattle.rules.proofs.Steps.{all-taken-are, all-taken-not}
@@ -16,11 +14,6 @@ use Rattle.frame.proofs.Listed.{listed}
 use Rattle.rules.proofs.Tests.{broken, unbroken}
 use Rattle.daybook.proofs.makes.needs_held.Statement.{statement}
 use Rattle.daybook.proofs.makes.needs_held.Tie as tie
-use Rattle.daybook.proofs.makes.needs_held.Reads as reads
-use Rattle.daybook.proofs.makes.needs_held.Lts as lts
-use Rattle.book.proofs.dim.Reads as dim-reads
-use Rattle.frame.proofs.needs_of.Reads as needs-of-reads
-use Rattle.book.proofs.held.Reads as held-reads
 
 abbrev Inv-loop : tie.InvT-loop
 Inv-loop book d e keys n i₀ i = (i ≤ n) × ((j : ℕ) → j < i → held book (getD keys j 0) ≡ true)
@@ -35,31 +28,24 @@ names c = listed _ _ _ (c .needs-of .ensures .0) (c .needs-of .ensures .1) ∙ a
 few : (c : tie.After-needs-of Inv-loop μ-loop) → c .needs-of .result .count ≤ 3
 few c = rw (c .needs-of .ensures .1) (needs-few (c .before .dim .result) (c .before .before .before .args .d) (c .before .before .before .args .e))
 
--- src/makes.rt:15:32
 dim-requires : tie.Need-dim-requires Inv-loop μ-loop
 dim-requires c κs = tt
 
--- src/makes.rt:15:9
 needs-of-requires : tie.Need-needs-of-requires Inv-loop μ-loop
 needs-of-requires c κs = let p = c .before .before .pre in (rw (c .dim .ensures) (p .1 .1), (p .0, p .1 .0))
 
--- src/makes.rt:19:5
 loop-holds : tie.Need-loop-holds Inv-loop μ-loop
 loop-holds c = (omega arith, λ j l. absurd (omega arith))
 
--- src/makes.rt:20:30
 mul-held : tie.Need-mul-held Inv-loop μ-loop
 mul-held c = omega (arith, few (c .before .before .before))
 
--- src/makes.rt:20:30
 array-read-held : tie.Need-array-read-held Inv-loop μ-loop
 array-read-held c = omega (arith, few (c .before .before .before))
 
--- src/makes.rt:20:13
 held-requires : tie.Need-held-requires Inv-loop μ-loop
 held-requires c κs = tt
 
--- src/makes.rt:21:13
 returns : tie.Need-returns Inv-loop μ-loop
 returns c = let l = c .before .before .before .loop in
     let i : l .i < c .before .before .before .before .before .needs-of .result .count = c .before .before .loop-test .taken in
@@ -67,19 +53,15 @@ returns c = let l = c .before .before .before .loop in
     let k : length (c .before .before .before .before .before .needs-of .result .keys) ≡ 3 = search needs in
     sym (rw (names (c .before .before .before .before .before)) at (all-taken-not (held (c .before .before .before .before .before .before .before .before .args .book .now)) (c .before .before .before .before .before .needs-of .result .count) (c .before .before .before .before .before .needs-of .result .keys) 0 (l .i) i (omega (arith, few (c .before .before .before .before .before))) h))
 
--- src/makes.rt:23:9
 add-i : tie.Need-add-i Inv-loop μ-loop
 add-i c = omega (arith, few (c .before .before .before .before .before))
 
--- src/makes.rt:19:5
 loop-less : tie.Need-loop-less Inv-loop μ-loop
 loop-less c = omega arith
 
--- src/makes.rt:19:5
 loop-again : tie.Need-loop-again Inv-loop μ-loop
 loop-again c = (omega arith, below-more _ _ (c .before .before .before .loop .inv .1) (unbroken _ _ (c .before .held .ensures) (c .if1 .left)))
 
--- src/makes.rt:11:1
 returns-2 : tie.Need-returns-2 Inv-loop μ-loop
 returns-2 c = let l = c .before .loop in
     let e : l .i ≡ c .before .before .before .needs-of .result .count = omega (arith, l .inv .0, c .loop-test .left) in

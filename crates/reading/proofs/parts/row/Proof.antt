@@ -14,8 +14,15 @@ use Rattle.reading.proofs.RowCases.{row-within}
 use Rattle.reading.proofs.parts.row.Statement.{statement}
 use Rattle.reading.proofs.parts.row.Tie as tie
 
+row-answer-requires : tie.Need-row-answer-requires
+row-answer-requires c κs = search needs
+
 row-number-requires : tie.Need-row-number-requires
 row-number-requires c κs = search needs
+
+-- the number that was tested is Row's
+number-is : (c : tie.After-row-number) → let a = c .before .before .before .args in c .row-number .result ≡ rowNumber (a .book .now) (a .d) (a .e) (a .i)
+number-is c = c .row-number .ensures ∙ c .before .row-answer .ensures .0
 
 sub-result : tie.Need-sub-result
 sub-result c = search needs
@@ -29,21 +36,21 @@ part-result-end c = search needs
 returns : tie.Need-returns
 unfolding rowPart
 returns c =
-    let a = c .before .before .before .before .args in
-    let n : rowNumber (a .book .now) (a .d) (a .e) (a .i) ≡ 0 → ⊥ = λ z. c .before .if1 .taken (c .before .before .row-number .ensures ∙ z) in
+    let a = c .before .before .before .before .before .args in
+    let n : rowNumber (a .book .now) (a .d) (a .e) (a .i) ≡ 0 → ⊥ = λ z. c .before .if1 .taken (number-is (c .before .before) ∙ z) in
     record {
       words = rw (ne-eqb (rowNumber (a .book .now) (a .d) (a .e) (a .i)) 0 n);
       block = refl;
       start = λ z. absurd (n z);
     }
 
-accepted : (c : tie.Else1) → let a = c .before .before .before .args in rowNumber (a .book .now) (a .d) (a .e) (a .i) ≡ 0
-accepted c = sym (c .before .row-number .ensures) ∙ c .if1 .left
+accepted : (c : tie.Else1) → let a = c .before .before .before .before .args in rowNumber (a .book .now) (a .d) (a .e) (a .i) ≡ 0
+accepted c = sym (number-is (c .before)) ∙ c .if1 .left
 
 key-requires : tie.Need-key-requires
 key-requires c κs =
-    let a = c .before .before .before .args in
-    let m = dim-most (a .book .now) (λ i. c .before .before .shared-slice-known .given i .fits) in
+    let a = c .before .before .before .before .args in
+    let m = dim-most (a .book .now) (λ i. c .before .before .before .shared-slice-known .given i .fits) in
     let r = rowed (a .book .now) (a .d) (a .e) (a .i) (accepted c) in
     (omega (arith, m, r .first), omega (arith, m, r .second))
 
@@ -53,7 +60,7 @@ row-requires c κs = search needs
 returns-2 : tie.Need-returns-2
 unfolding rowPart
 returns-2 c =
-    let a = c .before .before .before .before .before .args in
+    let a = c .before .before .before .before .before .before .args in
     let b = a .book .now in
     let z = accepted (c .before .before) in
     let k = c .before .key .ensures in
@@ -70,6 +77,7 @@ pub row-spec : {M : Type 1} → statement M
 row-spec =
     tie.close
     (tie.spec
+    row-answer-requires
     row-number-requires
     sub-result
     part-result-start
