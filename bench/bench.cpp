@@ -89,6 +89,16 @@ template <class Copy, class Run> double best(Copy copy, Run run, int times) {
     return least;
 }
 
+// The same for two that are held to each other, by turns, so that a machine that changes its pace changes both.
+template <class Copy, class First, class Second> std::pair<double, double> both(Copy copy, First first, Second second, int times) {
+    std::pair<double, double> least = {1e300, 1e300};
+    for (int k = 0; k < times; k++) {
+        least.first = std::min(least.first, best(copy, first, 1));
+        least.second = std::min(least.second, best(copy, second, 1));
+    }
+    return least;
+}
+
 static void must(bool ok, const char *what) {
     if (!ok) {
         std::fprintf(stderr, "bench: %s\n", what);
@@ -141,19 +151,22 @@ static plain::Book loaded(const Named &m) {
 }
 
 static void line(const Named &m, const std::string &what, size_t words, double ours, double theirs) {
-    std::printf("%-12s %-9s %9zu %10.2f %10.2f %6.2f\n", m.name.c_str(), what.c_str(), words, ours, theirs, ours / theirs);
+    std::printf("%-12s %-10s %9zu %10.2f %10.2f %6.2f\n", m.name.c_str(), what.c_str(), words, ours, theirs, ours / theirs);
     std::fflush(stdout);
 }
 
-// Asks for all of these in order, one by one or by one list, on a book that holds what stands in `before`, lent the words it ends up using and `spare` more.
+// Asks for all of these in order, one by one or by one list, on a book that holds what stands in `before` but not what stands in `dropped`, lent the words it
+// ends up using and `spare` more.
 static void compare(const Named &m, const std::string &what, const std::vector<std::pair<unsigned, unsigned>> &before,
-                    const std::vector<std::pair<unsigned, unsigned>> &asked, size_t spare, int times, bool by_list = false) {
+                    const std::vector<std::pair<unsigned, unsigned>> &asked, size_t spare, int times, bool by_list = false,
+                    const std::vector<std::pair<unsigned, unsigned>> &dropped = {}) {
     auto all = before;
     all.insert(all.end(), asked.begin(), asked.end());
     size_t room = book_with(m, all)[4] + spare;
     auto book = book_with(m, before, room);
     plain::Book plainly = loaded(m);
     for (auto a : before) must(plain::ask(plainly, a.first, a.second), "plain ask");
+    for (auto a : dropped) must(daybook_drop(book.data(), room, a.first, a.second, &key, &position) == 0 && plain::drop(plainly, a.first, a.second), "drop");
     std::vector<uint32_t> pairs, answers(asked.size());
     for (auto a : asked) pairs.push_back(a.first), pairs.push_back(a.second);
     auto accepted = [&] { return std::count(answers.begin(), answers.end(), 0u) == long(answers.size()); };
@@ -168,6 +181,61 @@ static void compare(const Named &m, const std::string &what, const std::vector<s
     line(m, what, room, best([&] { return book; }, ask, times), best([&] { return plainly; }, ask_plainly, times));
     ask(book), ask_plainly(plainly);
     must(same(book, plainly), "the two programs hold different relations");
+}
+
+// d->0 where 0->d keeps N_d and d->0 was dropped, so that the entities are counted before they are written; and what the count alone takes, from a call that
+// is refused because the book lies about N_d, less its checks, beside the plain program's Build. N_d has a bound, and a mesh that reaches it cannot lie upwards.
+static void compare_kept(const Named &m, unsigned d, int times) {
+    const std::string name = std::to_string(d) + "->0";
+    compare(m, name + " kept", {{0, d}}, {{d, 0}}, 0, times, false, {{d, 0}});
+    auto book = book_with(m, {{0, d}});
+    must(daybook_drop(book.data(), book.size(), d, 0, &key, &position) == 0, "drop");
+    if (book[1 + d] == m.cells.size() * (m.dim == 2 ? 3 : d == 1 ? 6 : 4)) return;
+    const size_t room = book[4];
+    book[1 + d]++;
+    const plain::Book plainly = loaded(m);
+    auto nothing = [] { return 0; };
+    int64_t number = 0;
+    size_t rows = 0;
+    auto refused = both(nothing, [&](int) { must(daybook_make(book.data(), room, d, 0, &key, &position) == DAYBOOK_NUMBER_DIFFERS, "a count that differs"); },
+                        [&](int) { must(daybook_euler(book.data(), room, &number, &key, &position) == DAYBOOK_NEED_MISSING, "checks"); }, times);
+    double built = best(nothing, [&](int) { rows = plain::build(plainly, d).rows(); }, times);
+    must(rows + 1 == book[1 + d], "the two programs count different entities");
+    line(m, name + " count", room, refused.first - refused.second, built);
+}
+
+// A drop from a book that holds all relations, of the words that they take; what is left of it without the checks, which are all that an Euler number takes,
+// beside a memmove of the same words and a memset of those that are freed; and the checks alone.
+static void compare_drop(const Named &m, unsigned d, unsigned e) {
+    const std::string name = std::to_string(d) + "->" + std::to_string(e);
+    const size_t room = book_with(m, relations(m))[4];
+    const auto book = book_with(m, relations(m), room);
+    plain::Book plainly = loaded(m);
+    for (auto r : relations(m)) must(plain::ask(plainly, r.first, r.second), "plain ask");
+    size_t from = 5, size = 0;
+    for (const auto &[k, r] : plainly.held) {
+        size = r.offsets.size() + r.indices.size();
+        if (k == plain::key(d, e)) break;
+        from += size;
+    }
+    std::vector<uint32_t> lent(room); // one for all, since a time depends on where the words lie
+    auto copy = [&] { return std::copy(book.begin(), book.end(), lent.begin()); };
+    auto nothing = [] { return 0; };
+    int64_t number = 0;
+    auto drop = [&](auto) { must(daybook_drop(lent.data(), room, d, e, &key, &position) == 0, "drop"); };
+    auto check = [&](auto) { must(daybook_euler(lent.data(), room, &number, &key, &position) == 0, "Euler number"); };
+    auto move = [&](auto) {
+        std::memmove(&lent[from], lent.data() + from + size, (room - from - size) * sizeof lent[0]);
+        std::memset(&lent[room - size], 0, size * sizeof lent[0]);
+    };
+    auto ours = both(copy, drop, check, 9);
+    line(m, "drop " + name, room, ours.first, best([&] { return plainly; }, [&](plain::Book &b) { must(plain::drop(b, d, e), "plain drop"); }, 9));
+    line(m, "checks", room, ours.second, best(nothing, [&](int) { must(plain::right(plainly), "plain checks"); }, 9));
+    line(m, "move " + name, room, ours.first - ours.second, best(copy, move, 9));
+    auto after = [&](auto run) { return run(copy()), lent; };
+    const auto dropped = after(drop), moved = after(move);
+    must(plain::drop(plainly, d, e) && same(dropped, plainly), "the two programs hold different relations after a drop");
+    must(std::equal(dropped.begin() + 5, dropped.end(), moved.begin() + 5), "a drop is no memmove and memset");
 }
 
 // Load and write of a mesh, in a book of the words that its cells take.
@@ -289,7 +357,7 @@ static void memory(const Named &m) {
 }
 
 int main() {
-    std::printf("%-12s %-9s %9s %10s %10s %6s\n", "mesh", "call", "words", "library us", "plain us", "ratio");
+    std::printf("%-12s %-10s %9s %10s %10s %6s\n", "mesh", "call", "words", "library us", "plain us", "ratio");
     const std::vector<Named> meshes = {sheet(45), box(8, 8, 10), scattered(4096, 8192), fan(4096)};
     for (const Named &m : meshes) {
         int times = m.level ? 5 : 3;
@@ -305,6 +373,12 @@ int main() {
         compare(m, "asks", {}, every, 0, m.level ? 5 : 3);
         compare(m, "list", {}, every, 0, m.level ? 5 : 3, true);
     }
+    // relations whose entities are counted first, since another relation keeps their number
+    for (const Named &m : meshes)
+        for (unsigned d = 1; d < m.dim; d++) compare_kept(m, d, m.level ? 5 : 3);
+    // the first relation and the last one dropped from a book that holds all sixteen
+    compare_drop(meshes[1], 0, 0);
+    compare_drop(meshes[1], 3, 3);
     // phase closures, on a book that holds just what they need
     for (const Named &m : meshes) compare_closures(m);
     // from a sixteenth of the size to the whole

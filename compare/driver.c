@@ -6,6 +6,7 @@
  *   'L' n, n bytes          load that file
  *   'M' d e, 'A' d e        make, ask
  *   'Q' n m, n + m words    a list of asks: n numbers of pairs, m answers as they are before it
+ *   'D' d e                 drop
  *   'R' d e i, 'F' d e i j  row, find
  *   'T' d e                 every row of d→e until one is refused; behind the answer, for each row, its length and its words
  *   'W' n, n bytes          write to a buffer with these bytes
@@ -120,6 +121,10 @@ int main(void) {
             take(&pairs, (size_t)d * 4), take(&bytes, (size_t)e * 4);
             given = daybook_ask_list(words, n, (uint32_t *)at(pairs), d, (uint32_t *)at(bytes), e);
             out[0] = crc(at(pairs), pairs.size);
+            break;
+        case 'D':
+            d = number(), e = number();
+            given = daybook_drop(words, n, d, e, key, position);
             break;
         case 'R': {
             size_t start, count;

@@ -15,7 +15,7 @@
 #include <sys/mman.h>
 #include <unistd.h>
 
-enum { STACK = 1 << 20, THREADS = 8, ROUNDS = 6, CALLS = 10 };
+enum { STACK = 1 << 20, THREADS = 8, ROUNDS = 6, CALLS = 11 };
 
 static void fail(const char *what) {
     printf("not as the header says: %s\n", what);
@@ -146,6 +146,21 @@ static uint32_t ask(uint32_t *book, size_t words, uint32_t d, uint32_t e) {
     return daybook_ask(book, words, d, e, &key, &position);
 }
 
+/* A drop from such a book. */
+static uint32_t drop(uint32_t *book, size_t words, uint32_t d, uint32_t e) {
+    uint32_t key;
+    size_t position;
+    return daybook_drop(book, words, d, e, &key, &position);
+}
+
+/* Asks for all relations. */
+static uint32_t ask_all(uint32_t *book, size_t words) {
+    uint32_t number = 0, top = book[0] >> 30;
+    for (uint32_t d = 0; d <= top; d++)
+        for (uint32_t e = 0; e <= top; e++) number |= ask(book, words, d, e);
+    return number;
+}
+
 /* ---- the sizes that the header promises */
 
 static uint8_t file[32768];
@@ -154,10 +169,7 @@ static void enough(const char *name, struct mesh m) {
     uint64_t words = m.sheet ? DAYBOOK_WORDS_SHEET(m.dim, m.vertices, m.cells) : DAYBOOK_WORDS_ANY(m.dim, m.vertices, m.cells);
     uint32_t *book = malloc(words * sizeof *book), cell;
     if (!book) exit(3);
-    if (daybook_load(file, file_of(m, file), book, words, &cell)) fail(name);
-    for (unsigned d = 0; d <= m.dim; d++)
-        for (unsigned e = 0; e <= m.dim; e++)
-            if (ask(book, words, d, e)) fail(name);
+    if (daybook_load(file, file_of(m, file), book, words, &cell) || ask_all(book, words)) fail(name);
     printf("%s: all relations take %u words; %s gives %llu\n", name, (unsigned)book[4], m.sheet ? "DAYBOOK_WORDS_SHEET" : "DAYBOOK_WORDS_ANY",
            (unsigned long long)words);
     free(book);
@@ -210,6 +222,7 @@ static void *make_call(void *place) {
     case 7: c->number = daybook_find(c->book, c->words, c->d, c->e, 0, 0, &yes, &length, &c->key, &c->position); break;
     case 8: c->number = daybook_ask_list(c->book, c->words, pair, 2, &yes, 1) | yes; break;
     case 9: c->number = closures_of(c); break;
+    case 10: c->number = daybook_drop(c->book, c->words, c->d, c->e, &c->key, &c->position); break;
     default: break;
     }
     return NULL;
@@ -230,37 +243,75 @@ static size_t painted(struct call *c) {
     return sizeof stack - clean;
 }
 
-static size_t most[CALLS];
+static size_t bare, most[CALLS];
+
+/* A call on a painted stack; what it takes more than a thread without a call is kept where it is the most yet. */
+static void measured(struct call *c) {
+    size_t used = painted(c) - bare;
+    if (used > most[c->which]) most[c->which] = used;
+}
 
 /* The calls that check the whole book, on one that is broken here. */
-static void find_broken(struct call *c, size_t bare, uint32_t key, size_t position) {
-    static const int checking[] = {1, 2, 4, 5, 9};
-    for (int k = 0; k < 5; k++) {
+static void find_broken(struct call *c, uint32_t key, size_t position) {
+    static const int checking[] = {1, 2, 4, 5, 9, 10};
+    for (int k = 0; k < 6; k++) {
         c->which = checking[k], c->d = 0, c->e = 0;
         c->key = 99, c->position = 99;
-        size_t used = painted(c) - bare;
+        measured(c);
         if (c->number != DAYBOOK_ROWS_BROKEN || c->key != key || c->position != position) fail("where a book is broken");
-        if (used > most[c->which]) most[c->which] = used;
     }
 }
 
 /* The last free word is not 0; then the last cell is the first one again. */
-static void measure_broken(struct call *c, size_t bare, unsigned dim, unsigned cells) {
+static void measure_broken(struct call *c, unsigned dim, unsigned cells) {
     size_t first = 0, last = 0, count = 0;
     c->book[c->words - 1] = 1;
-    find_broken(c, bare, DAYBOOK_FREE_WORDS, c->words - 1 - c->book[4]);
+    find_broken(c, DAYBOOK_FREE_WORDS, c->words - 1 - c->book[4]);
     if (daybook_row(c->book, c->words, dim, 0, 0, &first, &count, &c->key, &c->position)) fail("the first cell");
     if (daybook_row(c->book, c->words, dim, 0, cells - 1, &last, &count, &c->key, &c->position)) fail("the last cell");
     memcpy(c->book + last, c->book + first, (dim + 1) * sizeof *c->book);
-    find_broken(c, bare, 4 * dim, cells + 1 + (size_t)(dim + 1) * (cells - 1));
+    find_broken(c, 4 * dim, cells + 1 + (size_t)(dim + 1) * (cells - 1));
+}
+
+/* d -> 0 made, asked for, asked for by a list, and on the way to d -> d, where 0 -> d alone keeps N_d: the true one, or one more, which is refused. */
+static void measure_kept(struct call *c, unsigned dim, unsigned cells) {
+    static const int making[] = {2, 1, 8, 1};
+    for (unsigned d = 1; d < dim; d++)
+        for (unsigned turn = 0; turn < 8; turn++) {
+            unsigned more = turn % 2, bound = cells * (dim == 2 ? 3 : d == 1 ? 6 : 4);
+            c->which = making[turn / 2], c->d = d, c->e = turn < 6 ? 0 : d;
+            if (daybook_load(file, c->size, c->book, c->words, &c->number) || ask(c->book, c->words, 0, d) || drop(c->book, c->words, d, 0)) fail("a drop");
+            if (more && c->book[1 + d] == bound) continue; /* the frame rule allows no more */
+            c->book[1 + d] += more;
+            measured(c);
+            if (c->number != (more ? DAYBOOK_NUMBER_DIFFERS : DAYBOOK_ACCEPTED)) fail("a relation made where another keeps its count");
+        }
+}
+
+/* d -> 0 and d -> D dropped, for each d, from a book that holds all of them, and asked for again: the words are as before. D -> 0 is kept. */
+static void measure_drops(struct call *c, unsigned dim) {
+    uint32_t *before = malloc(c->words * sizeof *before);
+    if (!before) exit(3);
+    if (daybook_load(file, c->size, c->book, c->words, &c->number) || ask_all(c->book, c->words)) fail("all relations before a drop");
+    memcpy(before, c->book, c->words * sizeof *before);
+    c->which = 10;
+    for (c->d = 0; c->d <= dim; c->d++)
+        for (c->e = 0; c->e <= dim; c->e += dim) {
+            int cells = c->d == dim && c->e == 0;
+            measured(c);
+            if (c->number != (cells ? DAYBOOK_CELLS_KEPT : DAYBOOK_ACCEPTED)) fail("the number that a drop gives");
+            if (cells != !memcmp(before, c->book, c->words * sizeof *before)) fail("the words after a drop");
+            if (ask(c->book, c->words, c->d, c->e) || memcmp(before, c->book, c->words * sizeof *before)) fail("a relation dropped and asked for again");
+        }
+    free(before);
 }
 
 static void measure(struct mesh m) {
     size_t words = 1500000;
     struct call c = {CALLS, 0, 0, calloc(words, 4), words, file_of(m, file), 0, 0, 0};
     if (!c.book) exit(3);
-    size_t bare = painted(&c);
-    for (c.which = 0; c.which < CALLS; c.which++)
+    bare = painted(&c);
+    for (c.which = 0; c.which < 10; c.which++)
         for (c.d = 0; c.d <= m.dim; c.d++)
             for (c.e = 0; c.e <= m.dim; c.e++) {
                 /* make and a list of asks are measured on a book that holds nothing but D -> 0 yet */
@@ -268,15 +319,13 @@ static void measure(struct mesh m) {
                 /* phase closures on one that holds 1 -> 0 and 2 -> 0; intervals have no faces, and are refused */
                 if (c.which == 9 && c.d == 0 && c.e == 0) ask(c.book, c.words, 1, 0), ask(c.book, c.words, 2, 0);
                 uint32_t due = c.which == 9 && m.dim == 1 ? DAYBOOK_DIMENSION_OVER : DAYBOOK_ACCEPTED;
-                size_t used = painted(&c) - bare;
+                measured(&c);
                 if (c.which != 2 && c.number != due) fail("the number that a call gives");
-                if (used > most[c.which]) most[c.which] = used;
-                if (c.which == 2) ask(c.book, c.words, c.d, c.e);
-                if (c.which == 2)
-                    for (unsigned d = 0; d <= m.dim; d++)
-                        for (unsigned e = 0; e <= m.dim; e++) ask(c.book, c.words, d, e);
+                if (c.which == 2) ask_all(c.book, c.words);
             }
-    measure_broken(&c, bare, m.dim, m.cells);
+    measure_kept(&c, m.dim, m.cells);
+    measure_drops(&c, m.dim);
+    measure_broken(&c, m.dim, m.cells);
     free(c.book);
     free(m.corners);
 }
@@ -338,8 +387,7 @@ static void *work(void *place) {
     struct worker *w = place;
     uint32_t cell;
     w->number = daybook_load(w->file, w->size, w->book, w->words, &cell);
-    for (unsigned d = 0; d <= w->book[0] >> 30; d++)
-        for (unsigned e = 0; e <= w->book[0] >> 30; e++) w->number |= ask(w->book, w->words, d, e);
+    w->number |= ask_all(w->book, w->words) | drop(w->book, w->words, 0, 1) | drop(w->book, w->words, 1, 0);
     return NULL;
 }
 
@@ -371,8 +419,8 @@ static void side_by_side(void) {
 
 int main(void) {
     setvbuf(stdout, NULL, _IOLBF, 0);
-    static const char *names[] = {"load", "ask", "make", "row", "write", "euler", "held_count", "find", "ask_list", "closures"};
-    static const size_t kilobytes[] = {128, 512, 512, 16, 64, 64, 16, 16, 512, 64};
+    static const char *names[] = {"load", "ask", "make", "row", "write", "euler", "held_count", "find", "ask_list", "closures", "drop"};
+    static const size_t kilobytes[] = {128, 512, 512, 16, 64, 64, 16, 16, 512, 64, 64};
     enough("a sheet of 3,698 triangles", sheet(44));
     enough("two stacked scans of 4,056 tetrahedra", stacked(27));
     enough("a chain of 4,096 intervals", chain(4096));

@@ -126,21 +126,24 @@ def faulty_file(rng):
 
 
 def lying_book(rng, room):
-    """A book that breaks no rule and tells no truth: different cells, and else any rows that ascend and lie below the counts."""
+    """A book that breaks no rule and tells no truth: different cells; any relations, with all that they are made from or without; N_1 and N_2
+    as many as the cells have, or not; and any rows that ascend and lie below the counts."""
     D = rng.choice((1, 2, 2, 3, 3))
     points = rng.choice((4, 5, 7))
-    cells = min(rng.choice((0, 1, 2, 4)), math.comb(points, D + 1))
-    held = {(D, 0)}
+    count = min(rng.choice((0, 1, 2, 4)), math.comb(points, D + 1))
+    cells = rng.sample(list(itertools.combinations(range(points), D + 1)), count)
+    held, complete = {(D, 0)}, rng.random() < 0.3
     if rng.random() < 0.4:
         held |= {(d, 0) for d in range(1, D)}
     for _ in range(rng.randrange(9)):
         d, e = rng.randrange(D + 1), rng.randrange(D + 1)
-        if all(n in held for n in rules.needs(D, d, e)):
+        if not complete or all(n in held for n in rules.needs(D, d, e)):
             held.add((d, e))
-    counts = {0: points, D: cells}
+    counts = {0: points, D: count}
     for d in range(1, D):
-        if (d, 0) in held:
-            counts[d] = rng.randrange({(2, 1): 3, (3, 1): 6, (3, 2): 4}[D, d] * cells + 1)
+        if rules.names(held, d):
+            found = {vertices for cell in cells for vertices in itertools.combinations(cell, d + 1)}
+            counts[d] = rng.choice((len(found), rng.randrange({(2, 1): 3, (3, 1): 6, (3, 2): 4}[D, d] * count + 1)))
     words = []
     for d, e in sorted(held):
         rows = []
@@ -150,13 +153,17 @@ def lying_book(rng, room):
             else:
                 size = rng.randrange(min(counts[e], 4) + 1)
             rows.append(sorted(rng.sample(range(counts[e]), size)))
-        if (d, e) == (D, 0):
-            rows = [list(cell) for cell in rng.sample(list(itertools.combinations(range(points), D + 1)), cells)]
-        words += rules.words_of(rows)
-    head = D << 30 | points << 16 | cells << 3
-    inner = [counts[d] if 0 < d < D and (d, 0) in held else 0 for d in (1, 2)]
+        words += rules.words_of([list(cell) for cell in cells] if (d, e) == (D, 0) else rows)
+    head = D << 30 | points << 16 | count << 3
+    inner = [counts[d] if d < D and rules.names(held, d) else 0 for d in (1, 2)]
     book = [head, sum(1 << 4 * d + e for d, e in held)] + inner + [5 + len(words)] + words
     return book + [0] * rng.choice((0, 0, 1, 20, room))
+
+
+def unmade(book):
+    """Each d, 0 < d < D, whose N_d is kept though d→0 is not held, in a book whose frame is right."""
+    frame = rules.Frame.of(book)
+    return [d for d in range(1, frame.D) if rules.names(frame.held, d) and (d, 0) not in frame.held]
 
 
 def damaged_book(rng, book):

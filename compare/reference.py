@@ -92,6 +92,11 @@ def needs(D, d, e):
     return [(0, D), (D, 0)]
 
 
+def names(held, d):
+    """Whether one of these relations names d, as its first or its second."""
+    return any(d in relation for relation in held)
+
+
 class Frame:
     """A book whose frame is right, taken apart; None of it is made where the frame rule is broken."""
 
@@ -109,11 +114,8 @@ class Frame:
         frame.held = {divmod(k, 4) for k in range(32) if mask >> k & 1}
         if any(d > D or e > D for d, e in frame.held) or (D, 0) not in frame.held:
             return None
-        for d, e in frame.held:
-            if any(n not in frame.held for n in needs(D, d, e)):
-                return None
         for d in (1, 2):
-            if d < D and (d, 0) in frame.held:
+            if d < D and names(frame.held, d):
                 most = {(2, 1): 3, (3, 1): 6, (3, 2): 4}[D, d]
                 if book[1 + d] > most * cells:
                     return None
@@ -278,27 +280,34 @@ def load(data, book):
 
 
 class State:
-    """The relations of a right book as rows, to make others from and to put together again."""
+    """The relations of a right book as rows, to make others from or to drop one, and to put together again."""
 
     def __init__(self, frame):
         self.D, self.counts = frame.D, dict(frame.counts)
         self.rows = {r: frame.rows(*r) for r in frame.held}
 
     def make(self, d, e):
+        """0; or 25, where another relation keeps N_d and d→0 is found to have another number of entities."""
         rows = made(self.D, self.counts, self.rows, d, e)
-        self.rows[d, e] = rows
         if e == 0 and 0 < d < self.D:
+            if names(self.rows, d) and self.counts[d] != len(rows):
+                return 25
             self.counts[d] = len(rows)
+        self.rows[d, e] = rows
+        return 0
 
     def ask(self, d, e):
+        """Makes what is missing, back to what is held: 0, or 25 where it comes on the way."""
         if (d, e) in self.rows:
-            return
+            return 0
         for x, y in needs(self.D, d, e):
-            self.ask(x, y)
-        self.make(d, e)
+            number = self.ask(x, y)
+            if number:
+                return number
+        return self.make(d, e)
 
     def words(self, head):
-        inner = [self.counts[d] if 0 < d < self.D and (d, 0) in self.rows else 0 for d in (1, 2)]
+        inner = [self.counts[d] if d < self.D and names(self.rows, d) else 0 for d in (1, 2)]
         body = [w for r in sorted(self.rows) for w in words_of(self.rows[r])]
         return [head, sum(1 << 4 * d + e for d, e in self.rows)] + inner + [5 + len(body)] + body
 
@@ -332,8 +341,7 @@ def make(book, d, e):
     if any(n not in frame.held for n in needs(frame.D, d, e)):
         return 15, None
     state = State(frame)
-    state.make(d, e)
-    return settle(state, book), None
+    return state.make(d, e) or settle(state, book), None
 
 
 def ask(book, d, e):
@@ -344,8 +352,7 @@ def ask(book, d, e):
     if d > frame.D or e > frame.D:
         return 12, None
     state = State(frame)
-    state.ask(d, e)
-    return settle(state, book), None
+    return state.ask(d, e) or settle(state, book), None
 
 
 def ask_list(book, pairs, answers):
@@ -355,6 +362,22 @@ def ask_list(book, pairs, answers):
     for place in range(len(answers)):
         answers[place] = ask(book, pairs[2 * place], pairs[2 * place + 1])[0]
     return 0
+
+
+def drop(book, d, e):
+    """(number, place)"""
+    frame, number, place = checked(book)
+    if number:
+        return number, place
+    if d > frame.D or e > frame.D:
+        return 12, None
+    if (d, e) not in frame.held:
+        return 16, None
+    if (d, e) == (frame.D, 0):
+        return 24, None
+    state = State(frame)
+    del state.rows[d, e]
+    return settle(state, book), None
 
 
 def row(book, d, e, i):

@@ -5,7 +5,8 @@ lent word, byte and float (by its bits), and every guard word must agree.
 
 --full adds meshes of the full size. It prints, for each call, how often each number was given, how often each
 answer of a list of asks and each closure of a face was written, how often random calls met each kind of place
-where a book is broken, and the seed. From 20,000 calls on each kind has to be met, from 200,000 on a hundred times.
+where a book is broken and each answer that comes of dropping relations, and the seed. From 20,000 calls on each of
+these has to be met, from 200,000 on a hundred times.
 """
 
 import argparse
@@ -28,6 +29,9 @@ import reference as rules  # noqa: E402
 
 OUT = 0xA5A5A5A5A5A5A5A5
 LOW = 0xFFFFFFFF00000000
+# What comes of dropping relations: each answer of drop, 25 of make, ask and a list of asks, and a book whose words are as before once
+# the relation is made, or asked for, again.
+ROOM = ("drop 0", "drop 10", "drop 11", "drop 12", "drop 16", "drop 24", "make 25", "ask 25", "its answers 25", "made again", "asked again")
 OUTSIDE = (-32769, 32768, 65535, 65537, 98304, 131072, -65536, 2 ** 31 - 1, -2 ** 31)  # what no count may be
 ODD_FLOATS = [struct.pack("<Q", bits) for bits in (0, 1 << 63, 0x7FF8 << 48, 0xFFF0 << 48 | 1)]  # 0.0, -0.0 and two NaNs
 
@@ -105,12 +109,14 @@ class Runs:
         self.rng, self.library, self.left = random.Random(seed), library, calls
         self.table, self.book, self.past, self.made, self.sequences = {}, [], [], 0, 0
         self.sum = None  # the book's checksum, where it is known: it is taken anew after a call that writes
+        self.file = None  # the file that the book was loaded from, where calls alone have written it since
         self.told = None  # the key and the position that the last call gave
         self.count_kinds()
 
     def count_kinds(self):
-        """Counts from 0 how often each kind of place is met: by the calls that check the whole book, by row and by find."""
-        self.kinds = {"places": dict.fromkeys(rules.KINDS, 0), "row's": dict.fromkeys(rules.OWN_KINDS, 0), "find's": dict.fromkeys(rules.OWN_KINDS, 0)}
+        """Counts from 0 how often each kind of place is met, by the calls that check the whole book, by row and by find; and what comes of drops."""
+        self.kinds = {"places": dict.fromkeys(rules.KINDS, 0), "row's": dict.fromkeys(rules.OWN_KINDS, 0), "find's": dict.fromkeys(rules.OWN_KINDS, 0),
+                      "room": dict.fromkeys(ROOM, 0)}
 
     def fail(self, what, got, wanted):
         print("DISAGREE: %s: the library says %s, the reference %s" % (what, got, wanted))
@@ -118,7 +124,7 @@ class Runs:
         raise SystemExit(1)
 
     def use(self, book):
-        self.book, self.sum = list(book), None
+        self.book, self.sum, self.file = list(book), None, None
         self.library.call(b"B" + struct.pack("<I%dI" % len(book), len(book), *book))
 
     def check(self, name, text, number, first, second, data=b"", what="", place=None):
@@ -141,19 +147,28 @@ class Runs:
     def count(self, name, number):
         row = self.table.setdefault(name, {})
         row[number] = row.get(number, 0) + 1
+        self.meet("%s %d" % (name, number))
+        if number == 25 and self.file is not None:
+            raise SystemExit("%s: 25 in a book that calls alone have written" % name)
+
+    def meet(self, what):
+        if what in self.kinds["room"]:
+            self.kinds["room"][what] += 1
 
     def load(self, data):
         self.past, self.sum = list(self.book), None
         number, cell = rules.load(data, self.book)
         first = OUT if cell is None else OUT & LOW | cell
         self.check("load", b"L" + struct.pack("<I", len(data)) + data, number, first, OUT, data, data[:64].hex())
+        if number == 0:
+            self.file = data
         return number
 
     def relation(self, name, d, e):
         self.past, self.sum = list(self.book), None
-        call = {"make": rules.make, "ask": rules.ask}[name]
+        call, letter = {"make": (rules.make, b"M"), "ask": (rules.ask, b"A"), "drop": (rules.drop, b"D")}[name]
         number, place = call(self.book, d, e)
-        self.check(name, (b"M" if name == "make" else b"A") + struct.pack("<II", d, e), number, OUT, OUT, what=(d, e), place=place)
+        self.check(name, letter + struct.pack("<II", d, e), number, OUT, OUT, what=(d, e), place=place)
         return number
 
     def ask_list(self, pairs, answers):
@@ -269,6 +284,36 @@ class Runs:
             answers = answers[1:]
         self.ask_list(pairs, answers)
 
+    def some_drop(self):
+        """A drop, mostly of a relation that is held; at times it is then made, or asked for, again."""
+        rng, frame = self.rng, rules.Frame.of(self.book)
+        d, e = rng.choice(sorted(frame.held)) if frame and rng.random() < 0.7 else (self.dimension(), self.dimension())
+        if self.relation("drop", d, e) == 0 and rng.random() < 0.4:
+            self.restore(rng.choice(("make", "ask")), d, e)
+
+    def restore(self, name, d, e):
+        """Makes, or asks for, the relation that the last call has dropped: in a book that calls alone have written it has its old words
+        again, if what it is made from is held."""
+        before, frame = self.past, rules.Frame.of(self.past)
+        number = self.relation(name, d, e)
+        if self.file is not None and all(n in frame.held for n in rules.needs(frame.D, d, e)):
+            self.demand("%d→%d dropped and then restored by %s" % (d, e, name), (number, self.book == before), (0, True))
+            self.meet({"make": "made again", "ask": "asked again"}[name])
+
+    def as_if_fresh(self):
+        """A book that calls alone have written since a load has the words of a fresh one with the same relations, however it came to them.
+        Said of the separate program's book, to which the library's is held after each call."""
+        if self.file is None:
+            return
+        fresh, held = [0] * len(self.book), rules.Frame.of(self.book).held
+        rules.load(self.file, fresh)
+        state = rules.State(rules.Frame.of(fresh))
+        for relation in sorted(held):
+            state.ask(*relation)
+        state.rows = {relation: state.rows[relation] for relation in held}
+        words = state.words(self.book[0])
+        self.demand("the words with %s" % sorted(held), self.book, words + [0] * (len(self.book) - len(words)))
+
     def some_counts(self, points):
         """A count for each point: any, all the same, or some that lie half a turn apart or one beside it; at times masked ones among them."""
         rng, first = self.rng, self.rng.randrange(-32768, 32768)
@@ -303,9 +348,11 @@ class Runs:
     def step(self, made):
         rng = self.rng
         if rng.random() < made:
-            way = rng.choice(("make", "ask", "list"))
+            way = rng.choice(("make", "ask", "list", "drop"))
             if way == "list":
                 self.some_asks()
+            elif way == "drop":
+                self.some_drop()
             else:
                 self.relation(way, self.dimension(), self.dimension())
         elif rng.random() < 0.1:
@@ -332,6 +379,7 @@ class Runs:
             self.load(data)
             for _ in range(rng.randrange(7)):
                 self.step(0.6)
+            self.as_if_fresh()
 
     def strange_run(self):
         rng = self.rng
@@ -346,6 +394,30 @@ class Runs:
             self.use(meshes.damaged_book(rng, self.book))
         for _ in range(rng.randrange(1, 6)):
             self.step(0.5)
+
+    def room_run(self):
+        """Drops, makes and asks by turns, in a book with all relations, or in a lying one, mostly one that keeps N_1 or N_2 without 1→0 or 2→0."""
+        rng = self.rng
+        if rng.random() < 0.3:
+            self.use([7] * rng.choice((200, 900)))
+            self.load(rules.file_bytes(*meshes.random_mesh(rng, rng.choice((2, 3)), rng.choice((4, 6, 8)), rng.choice((1, 2, 5, 8)))))
+            self.ask_list([x for d in range(4) for e in range(4) for x in (d, e)], [7] * 16)
+            for _ in range(rng.randrange(6)):
+                self.some_drop()
+        else:
+            books = [meshes.lying_book(rng, rng.choice((3, 30, 300))) for _ in range(3)]
+            self.use(next(filter(meshes.unmade, books), books[0]))
+        for _ in range(rng.randrange(2, 7)):
+            way, d = rng.randrange(6), rng.choice(meshes.unmade(self.book) or [1, 2])
+            if way == 0:
+                self.some_drop()
+            elif way == 1:
+                self.some_asks()
+            elif way < 4:
+                self.relation("make", d, 0)
+            else:
+                self.relation("ask", rng.choice((d, self.dimension())), self.dimension())
+        self.as_if_fresh()
 
     def phase_run(self):
         """Phase closures on a book that holds edges and faces, true or lying ones, or has not the room for them, at times with a word changed."""
@@ -377,14 +449,14 @@ class Runs:
         for d, e, i in rng.sample(rows, min(2, len(rows))):
             self.row(d, e, i)
             self.find(d, e, i, self.number())
-        for way in rng.sample(range(6), 3):
-            if way < 2:
-                self.relation(("make", "ask")[way], self.dimension(), self.dimension())
-            elif way == 2:
-                self.write(rng.choice((0, 200)))
+        for way in rng.sample(range(7), 3):
+            if way < 3:
+                self.relation(("make", "ask", "drop")[way], self.dimension(), self.dimension())
             elif way == 3:
-                self.euler()
+                self.write(rng.choice((0, 200)))
             elif way == 4:
+                self.euler()
+            elif way == 5:
                 self.some_closures()
             else:
                 self.look()
@@ -421,14 +493,31 @@ class Runs:
             self.load(bytes(more))
 
     def lists_of_full_size(self):
-        """All relations of two meshes of bench/ by one list: with room for all, where places are then looked for, and with room for some."""
+        """All relations of two meshes of bench/ by one list: with room for all, where drops and places are then tried, and with room for some."""
         for mesh in (meshes.sheet(46, 46), meshes.box(8, 8, 10)):
             pairs = [x for d in range(mesh[0] + 1) for e in range(mesh[0] + 1) for x in (d, e)]
             for room in (1500000, 100000):
                 self.use([0xFFFFFFFF] * room)
                 self.load(rules.file_bytes(*mesh))
                 if not any(self.ask_list(pairs, [0xFFFFFFFF] * (len(pairs) // 2))[1]):
+                    self.drops_of_full_size()
                     self.places_of_full_size()
+
+    def drops_of_full_size(self):
+        """The book with all relations: the first and the last dropped and restored; then 1→0 where 0→1 keeps N_1, the true one or one more."""
+        D, data, whole = self.book[0] >> 30, self.file, list(self.book)
+        for name, d, e in (("make", 0, 0), ("ask", D, D)):
+            self.demand("a drop", self.relation("drop", d, e), 0)
+            self.restore(name, d, e)
+        self.use([0xFFFFFFFF] * 200000)
+        self.load(data)
+        self.demand("0→1, and 1→0 dropped", [self.relation("ask", 0, 1), self.relation("drop", 1, 0)], [0, 0])
+        right = list(self.book)
+        for more, number in ((0, 0), (1, 25)):
+            for name in ("make", "ask"):
+                self.use(right[:2] + [right[2] + more] + right[3:])
+                self.demand("%s of 1→0 with N_1 and %d" % (name, more), self.relation(name, 1, 0), number)
+        self.use(whole)
 
     def closures_of_full_size(self):
         """Phase closures of the four meshes of bench/: any counts, masked ones among them, one outside, and each list one too long or too short."""
@@ -490,7 +579,7 @@ class Runs:
             out.append(self.book[start : start + count])
 
     def examples(self):
-        """Examples by hand, whose numbers stand here as they were worked out: 10 and 11 of the paper, cells twice, searches, lists of asks, and phase closures."""
+        """Examples by hand, whose numbers stand here as they were worked out: 10 and 11 of the paper, cells twice, searches, lists of asks, phase closures, and drops."""
         t = rules.file_bytes(2, 4, [[0, 1, 3], [1, 2, 3]])
         for room, number in ((54, 0), (53, 13)):
             self.use([7] * room)
@@ -516,6 +605,11 @@ class Runs:
         self.phases(t)
         self.phases_refused(t)
         self.phases_cancel()
+        self.drops(t)
+        self.drops_refused(t)
+        self.faces_dropped()
+        self.edges_differ()
+        self.faces_differ()
 
     def cells_twice(self, t):
         """A cell that repeats an earlier one, in files and in books; and an edge in three triangles, which is allowed."""
@@ -597,7 +691,8 @@ class Runs:
         """Every call that checks the whole book gives 11 and this place, whatever else it would refuse; a list of asks gives the number alone."""
         self.use(book)
         for name, call in (("make", lambda: self.relation("make", 9, 9)), ("ask", lambda: self.relation("ask", 2, 0)), ("write", lambda: self.write(3)),
-                           ("euler", self.euler), ("closures", lambda: self.closures([65535], *self.unwritten(1, 1, 1))[0])):
+                           ("euler", self.euler), ("closures", lambda: self.closures([65535], *self.unwritten(1, 1, 1))[0]),
+                           ("drop", lambda: self.relation("drop", 9, 9))):
             self.demand("%s of a book broken at %s" % (name, place), (call(), self.told), (11, place))
         self.demand("a list", self.ask_list([9, 9, 2, 0], [7, 7]), (0, [11, 11]))
 
@@ -647,6 +742,103 @@ class Runs:
                 if frame:
                     self.demand("word %d is %d: broken" % (at, word), frame.rows_right(), frame.first_fault() is None)
                     self.euler()
+
+    def drops(self, t):
+        """Drops from T with all nine relations: what moves, N_1 kept while a relation names 1, the same words once all is made again, and
+        room for another relation."""
+        right = self.nine(t)
+        self.demand("1→0 is dropped", self.relation("drop", 1, 0), 0)
+        self.demand("its 16 words are free, and N_1 stays", self.book, right[:1] + [right[1] - 16, 5, 0, 103] + right[5:46] + right[62:] + [0] * 16)
+        for d, e, number in ((1, 0, 16), (1, 1, 0), (2, 0, 24)):
+            self.demand("then %d→%d" % (d, e), self.relation("drop", d, e), number)
+        self.demand("the Euler number wants it", self.euler(), 15)
+        self.refused(15, [0] * 4, 2, 5, 5)
+        self.demand("1→1 wants it", self.relation("make", 1, 1), 15)
+        self.demand("the rows of 2→1 stay", self.rows_of(2, 1), [[0, 1, 2], [2, 3, 4]])
+        self.demand("both again", [self.relation("make", 1, e) for e in (0, 1)], [0, 0])
+        self.demand("the same words", self.book, right)
+        for d, e in ((0, 0), (2, 2), (2, 1), (0, 2), (1, 2)):
+            for name in ("make", "ask"):
+                self.demand("a drop", self.relation("drop", d, e), 0)
+                self.restore(name, d, e)
+        for d, e, edges in ((1, 0, 5), (0, 1, 5), (1, 1, 5), (1, 2, 5), (2, 1, 0)):
+            self.demand("%d→%d is dropped" % (d, e), self.relation("drop", d, e), 0)
+            self.demand("N_1", self.book[2], edges)
+        self.demand("the words that are left", self.book,
+                    [right[0], 1 + 4 + 256 + 1024, 0, 0, 45] + right[5:20] + right[35:46] + right[96:105] + right[114:119] + [0] * 77)
+        self.demand("2→1 is asked for", self.relation("ask", 2, 1), 0)
+        self.demand("with its sources", self.book,
+                    [right[0], 1 + 2 + 4 + 16 + 256 + 512 + 1024, 5, 0, 85] + right[5:62] + right[96:119] + [0] * 37)
+        self.use([7] * 54)
+        self.load(t)
+        self.demand("2→1, and no room for 0→2", [self.relation("ask", *pair) for pair in ((2, 1), (0, 2))], [0, 13])
+        self.demand("room for it", [self.relation("drop", 1, 0), self.relation("ask", 0, 2)], [0, 0])
+        self.demand("all but five words are used", (self.book[4], self.book[49:]), (49, [0] * 5))
+        self.as_if_fresh()
+
+    def drops_refused(self, t):
+        """Each refusal of drop and what it goes before; and a relation of no words but one offset, and one that ends a book without free words."""
+        right = self.nine(t)
+        for broken, number in (([], 10), ([0] + right[1:], 10), (right[:-1] + [9], 11), (right, 0)):
+            for d, e, wanted in ((3, 0, 12), (0, 3, 12), (9, 9, 12), (0xFFFFFFFF, 0, 12), (2, 0, 24), (0, 0, 0)):
+                self.use(broken)
+                self.demand("drop of %d→%d" % (d, e), self.relation("drop", d, e), number or wanted)
+        self.use([7] * 14)
+        self.load(t)
+        for d in range(3):
+            for e in range(3):
+                self.demand("nothing else is held", self.relation("drop", d, e), 24 if (d, e) == (2, 0) else 16)
+        self.use([7] * 119)
+        self.load(t)
+        self.ask_list([x for d in range(3) for e in range(3) for x in (d, e)], [7] * 9)
+        self.demand("the last of a full book", (self.relation("drop", 2, 2), self.book[4:5] + self.book[113:]), (0, [114, 4, 0, 0, 0, 0, 0]))
+        self.use([0x40000000, 16 + 32, 0, 0, 7, 0, 0])
+        self.demand("a relation of one word", (self.relation("drop", 1, 1), self.book), (0, [0x40000000, 16, 0, 0, 6, 0, 0]))
+
+    def faces_dropped(self):
+        """A tetrahedron with all sixteen relations, from which those that name 2 are dropped one by one: N_2 is kept up to the last; N_1 stays."""
+        self.use([7] * 260)
+        self.load(rules.file_bytes(3, 4, [[3, 1, 0, 2]]))
+        self.ask_list([x for d in range(4) for e in range(4) for x in (d, e)], [7] * 16)
+        whole = list(self.book)
+        self.demand("all sixteen", whole[1:4], [0xFFFF, 6, 4])
+        for d, e, faces in ((2, 0, 4), (2, 2, 4), (1, 2, 4), (2, 3, 4), (0, 2, 4), (3, 2, 4), (2, 1, 0)):
+            self.demand("%d→%d is dropped" % (d, e), (self.relation("drop", d, e), self.book[2:4]), (0, [6, faces]))
+        self.demand("nine are left", self.book[1], 0xFFFF - (1 << 2) - (1 << 6) - (0xF << 8) - (1 << 14))
+        self.demand("again by one list", self.ask_list([0, 2, 1, 2, 2, 3, 2, 2], [7] * 4), (0, [0] * 4))
+        self.demand("the same words", self.book, whole)
+
+    def edges_differ(self):
+        """T with 0→1 alone beside its cells, and N_1 as it is, or less or more: then 1→0 cannot be made, with or without room for it, by whatever
+        asks for it on the way. The frame and the rows are right: each index of 0→1 is below N_1."""
+        for edges, spare, number in ((5, 100, 0), (5, 0, 13), (4, 100, 25), (4, 0, 25), (6, 100, 25), (0, 3, 25)):
+            rows = rules.words_of([[j for j in row if j < edges] for row in ([0, 1], [0, 2, 3], [3, 4], [1, 2, 4])])
+            cells = rules.words_of([[0, 1, 3], [1, 2, 3]])
+            book = [0x80040010, 2 + 256, edges, 0, 5 + len(rows) + len(cells)] + rows + cells + [0] * spare
+            for name, d, e, wanted in (("make", 1, 0, number), ("ask", 1, 0, number), ("ask", 1, 1, number), ("ask", 2, 1, number), ("ask", 1, 2, number),
+                                       ("make", 1, 1, 15), ("ask", 0, 1, 0), ("ask", 0, 0, 0 if spare > 30 else 13), ("make", 0, 1, 14)):
+                self.use(book)
+                self.demand("%s of %d→%d with %d edges" % (name, d, e, edges), self.relation(name, d, e), wanted)
+            self.use(book)
+            self.demand("a list with %d edges" % edges, self.ask_list([1, 1, 0, 1, 3, 0, 2, 1], [7] * 4), (0, [number, 0, 12, number]))
+            self.use(book)
+            self.demand("0→1 goes, and N_1 with it", (self.relation("drop", 0, 1), self.book[2]), (0, 0))
+            self.demand("then the edges are counted anew", self.relation("make", 1, 0), 13 if spare + len(rows) < 16 else 0)
+
+    def faces_differ(self):
+        """A tetrahedron with 0→2, or 0→1, alone beside its cell, and a false N_2 or N_1: what is in the way of each ask, and what is not."""
+        cell = rules.words_of([[0, 1, 2, 3]])
+        empty = [0] * 5  # the relation from four vertices to nothing
+        for head, spare, asks in (
+                ([4 + 4096, 0, 3], 100, ((2, 0, 25), (2, 1, 25), (1, 2, 25), (3, 2, 25), (2, 3, 25), (2, 2, 25), (1, 0, 0), (1, 1, 0), (3, 1, 0), (0, 2, 0), (0, 0, 0))),
+                ([4 + 4096, 0, 4], 100, ((2, 0, 0), (2, 1, 0), (1, 2, 0), (3, 2, 0))),
+                ([4 + 4096, 0, 3], 0, ((2, 0, 25), (2, 1, 25), (1, 2, 25), (3, 2, 25), (1, 0, 13), (0, 2, 0))),
+                # 2→1 is made from 2→0, for which there is no room, from 0→1, and from 1→0, whose count differs
+                ([2 + 4096, 5, 0], 0, ((2, 1, 25), (1, 2, 25), (2, 0, 13), (1, 0, 25), (3, 1, 25)))):
+            book = [0xC0040008] + head + [5 + len(empty + cell)] + empty + cell + [0] * spare
+            for d, e, number in asks:
+                self.use(book)
+                self.demand("ask of %d→%d with %s" % (d, e, head), self.relation("ask", d, e), number)
 
     def written(self, counts, faces, steps, masked):
         """Phase closures that write these closures, steps in 65,536ths, and masked bytes."""
@@ -731,12 +923,14 @@ class Runs:
         while self.left > 0:
             self.sequences += 1
             way = self.rng.random()
-            if way < 0.45:
+            if way < 0.4:
                 self.true_run()
-            elif way < 0.75:
+            elif way < 0.65:
                 self.strange_run()
-            elif way < 0.88:
+            elif way < 0.77:
                 self.phase_run()
+            elif way < 0.88:
+                self.room_run()
             else:
                 self.broken_run()
 
@@ -754,8 +948,9 @@ def main():
     least = 100 if given.calls >= 200000 else 1 if given.calls >= 20000 else 0
     for name, row in runs.kinds.items() if runs.sequences else ():
         print("%-12s %s" % (name, "  ".join("%s: %d" % kind for kind in row.items())))
-        if min(row.values()) < least:
-            raise SystemExit("a kind of place was met less than %d times" % least)
+        for kind, met in row.items():
+            if met < least:
+                raise SystemExit("%s: '%s' was met %d times, and has to be met %d times" % (name, kind, met, least))
     print("compare: %d calls in %d sequences agree, seed %d" % (runs.made, runs.sequences, given.seed))
 
 

@@ -34,12 +34,19 @@ static struct row row(uint32_t d, uint32_t e, uint32_t i) {
     return r;
 }
 
-/* Loads the file and asks for what the walk needs by one list: the edges of a cell, the cells at an edge, and the cells around a cell. */
+/* The words that the book used before the walk gave back room. */
+static uint32_t used;
+
+/* Loads the file and asks for what the walk needs by one list: the edges of a cell, the cells at an edge, and the cells around a cell.
+ * The edges and the cells at a vertex, 0 -> 1 and 0 -> 2, only served to make these, and are dropped. */
 static uint32_t prepare(size_t size) {
     static const uint32_t pairs[] = {2, 1, 1, 2, 2, 2};
-    uint32_t answers[3] = {0, 0, 0}, cell, number = daybook_load(file, size, book, words, &cell);
+    uint32_t answers[3] = {0, 0, 0}, cell, key, number = daybook_load(file, size, book, words, &cell);
+    size_t position;
     if (!number) number = daybook_ask_list(book, words, pairs, 6, answers, 3);
     for (int k = 0; k < 3 && !number; k++) number = answers[k];
+    if (!number) used = book[4];
+    for (uint32_t e = 1; e < 3 && !number; e++) number = daybook_drop(book, words, 0, e, &key, &position);
     return number;
 }
 
@@ -106,6 +113,7 @@ int main(int count, char **names) {
         if (row(2, 2, cell).count > most) most = (uint32_t)row(2, 2, cell).count;
     printf("cells: %u, pieces: %u, edges: %u, at the border: %u, most cells around one: %u\n", (unsigned)cells, (unsigned)pieces, (unsigned)book[2],
            (unsigned)border, (unsigned)most);
+    printf("words: %u, of which %u were given back\n", (unsigned)used, (unsigned)(used - book[4]));
     free(queue);
     free(seen);
     free(book);

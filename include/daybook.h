@@ -11,7 +11,7 @@
  *
  *   word 0      the day file's first 32 bits: D (2 bits), N_0 (14), N_D (13), 3 zero bits
  *   word 1      the sum of 2^(4d+e) over the relations d -> e that are held
- *   words 2, 3  N_1 and N_2, each only where 0 < d < D and d -> 0 is held, else 0
+ *   words 2, 3  N_1 and N_2, each kept while d < D and some relation held names d, as its first or its second, else 0
  *   word 4      the used length in words
  *   words 5..   the relations held, by ascending 4d+e, each N_d + 1 offsets and then its indices
  *
@@ -21,8 +21,8 @@
  * HOW MANY WORDS. A loaded mesh takes 6 + N_D + N_D (D + 1) words. Each relation more takes
  * N_d + 1 words and one for each index. DAYBOOK_WORDS_SHEET(D, N_0, N_D) words are enough for all
  * relations of a sheet-like mesh, DAYBOOK_WORDS_ANY(D, N_0, N_D) for those of any mesh. A call that
- * does not fit is refused with DAYBOOK_NO_ROOM and alters nothing, so a larger book can be lent and
- * filled by daybook_load again.
+ * does not fit is refused with DAYBOOK_NO_ROOM and alters nothing, so daybook_drop can give back room, or
+ * a larger book can be lent and filled by daybook_load again.
  *
  * THE RESULT of each call is 0 where it was accepted, else the number of the first refusal that
  * applies, in the order given at the call. A refusal alters no book, file, list or buffer that you lent.
@@ -47,7 +47,7 @@
  * daybook_row and daybook_find look at their row's own two offsets only, and say at the call which is meant.
  *
  * STACK, measured by painting it. daybook_make, daybook_ask and daybook_ask_list need up to 512 KiB
- * (417 KiB were measured), daybook_load up to 128 KiB (113), daybook_write, daybook_euler and
+ * (417 KiB were measured), daybook_load up to 128 KiB (113), daybook_drop, daybook_write, daybook_euler and
  * daybook_closures up to 64 KiB (49), the other calls less than 16 KiB (1).
  *
  * OWNERSHIP. Nothing is allocated, nothing is global, nothing is kept after a call returns: the
@@ -92,7 +92,9 @@ enum {
     DAYBOOK_PAIRS_OFF = 20,        /* half a pair, more than DAYBOOK_MOST_PAIRS pairs, or answers that have not one place a pair */
     DAYBOOK_LIST_LENGTH = 21,      /* a lent list is not as long as the mesh asks */
     DAYBOOK_COUNT_OUTSIDE = 22,    /* a count is neither from -32,768 to 32,767 nor DAYBOOK_MASKED */
-    DAYBOOK_CELL_TWICE = 23        /* two cells of the file have the same vertices; the lowest that repeats an earlier one is given */
+    DAYBOOK_CELL_TWICE = 23,       /* two cells of the file have the same vertices; the lowest that repeats an earlier one is given */
+    DAYBOOK_CELLS_KEPT = 24,       /* D -> 0 is not dropped */
+    DAYBOOK_NUMBER_DIFFERS = 25    /* d -> 0 has to be made, another relation keeps N_d, and another number of entities is found */
 };
 
 /* The key that stands for the free words, those from the used length on, where a place in the book is given. */
@@ -136,22 +138,35 @@ enum {
 uint32_t daybook_load(const uint8_t *file, size_t file_len, uint32_t *book, size_t book_len, uint32_t *cell);
 
 /* Makes the relation d -> e from what the book stores and puts it at its place; everything that it is
- * made from has to be held. Refusals: 10, 11 with *key and *position, 12, 14, 15, 13. */
+ * made from has to be held. 25 is for 1 -> 0 and 2 -> 0 below D, and never in a book that these calls alone
+ * have written. Refusals: 10, 11 with *key and *position, 12, 14, 15, 25, 13. */
 uint32_t daybook_make(uint32_t *book, size_t book_len, uint32_t d, uint32_t e, uint32_t *key, size_t *position);
 
 /* Makes the relation d -> e and, as far as missing, everything that it is made from, or nothing at
- * all. A relation that is held already is accepted, and no word changes.
- * Refusals: 10, 11 with *key and *position, 12, 13. */
+ * all. What is held is taken as it is, and its own sources are not looked for. A relation that is held
+ * already is accepted, and no word changes. 25 is as for daybook_make, for whatever has to be made on the
+ * way, and goes before 13 wherever on the way it lies. Refusals: 10, 11 with *key and *position, 12, 25, 13. */
 uint32_t daybook_ask(uint32_t *book, size_t book_len, uint32_t d, uint32_t e, uint32_t *key, size_t *position);
 
 /* Asks for several relations, one after another: book and answers are those of daybook_ask for each in turn.
  * pairs has two numbers for each, its d and its e, and answers gets one number for each in its place: 0 where
- * the ask was accepted, else its refusal, one of 10, 11, 12, 13; the place that goes with 11 is not given, and
- * daybook_ask gives it. A refused ask does not stop the next, and the call is accepted whatever its answers
+ * the ask was accepted, else its refusal, one of 10, 11, 12, 25, 13; the place that goes with 11 is not given,
+ * and daybook_ask gives it. A refused ask does not stop the next, and the call is accepted whatever its answers
  * are; no pairs at all are accepted too. The book is checked once for the whole list, so this takes less time
  * than as many calls of daybook_ask.
  * Refusal: 20, before everything else, also where the book is broken; then the answers are left alone too. */
 uint32_t daybook_ask_list(uint32_t *book, size_t book_len, const uint32_t *pairs, size_t pairs_len, uint32_t *answers, size_t answers_len);
+
+/* Drops the relation d -> e and gives back its room: later relations move down, and the words that are freed
+ * are set to 0, so that the next relation can take them. Relations that were made from it stay. daybook_row and
+ * daybook_find still answer in each of them, though a row may lie at another place than before; daybook_write
+ * and daybook_held_count answer as ever. daybook_make, daybook_euler and daybook_closures refuse with 15 where
+ * they need what was dropped; daybook_ask makes it again.
+ *
+ * The words follow from the mesh and from which relations are held: in a book that these calls alone have
+ * written, dropping a relation and making it again, or asking for it while its sources are held, gives the same
+ * words as before. Refusals: 10, 11 with *key and *position, 12, 16, and 24 for D -> 0. */
+uint32_t daybook_drop(uint32_t *book, size_t book_len, uint32_t d, uint32_t e, uint32_t *key, size_t *position);
 
 /* Row i of d -> e: where accepted it is book[*start .. *start + *count], which may be empty.
  * Refusals: 10, 12, 16, 17, and 11 where the row's own two offsets are not first <= second <= last: then *key

@@ -2,7 +2,7 @@
 //!
 //! A book is a slice of `u32` that you lend to each call; `include/daybook.h` says what stands in it. Nothing is
 //! allocated and nothing is kept. A refusal alters nothing that was lent. `make`, `ask` and `ask_list` need up to
-//! 512 KiB of stack, `load` up to 128 KiB, `write`, `euler` and `closures` up to 64 KiB.
+//! 512 KiB of stack, `load` up to 128 KiB, `drop_relation`, `write`, `euler` and `closures` up to 64 KiB.
 //!
 //! ```no_run
 //! # let file: Vec<u8> = Vec::new();
@@ -21,6 +21,7 @@ mod c {
         pub fn daybook_make(book: *mut u32, book_len: usize, d: u32, e: u32, key: *mut u32, position: *mut usize) -> u32;
         pub fn daybook_ask(book: *mut u32, book_len: usize, d: u32, e: u32, key: *mut u32, position: *mut usize) -> u32;
         pub fn daybook_ask_list(book: *mut u32, book_len: usize, pairs: *const u32, pairs_len: usize, answers: *mut u32, answers_len: usize) -> u32;
+        pub fn daybook_drop(book: *mut u32, book_len: usize, d: u32, e: u32, key: *mut u32, position: *mut usize) -> u32;
         pub fn daybook_row(
             book: *const u32,
             book_len: usize,
@@ -166,10 +167,15 @@ pub enum Refusal {
     CountOutside,
     /// 23: a cell repeats an earlier one; the lowest such cell.
     CellTwice(u32),
+    /// 24: D→0 is not dropped.
+    CellsKept,
+    /// 25: d→0 has to be made, another relation keeps N_d, and another number of entities is found; in a book that these calls
+    /// alone have written it cannot occur.
+    NumberDiffers,
 }
 
 impl Refusal {
-    /// The paper's number of this refusal, 1 to 23.
+    /// The paper's number of this refusal, 1 to 25.
     pub fn number(self) -> u32 {
         match self {
             Refusal::FileTooShort => 1,
@@ -195,6 +201,8 @@ impl Refusal {
             Refusal::ListLength => 21,
             Refusal::CountOutside => 22,
             Refusal::CellTwice(_) => 23,
+            Refusal::CellsKept => 24,
+            Refusal::NumberDiffers => 25,
         }
     }
 }
@@ -239,7 +247,9 @@ fn answer<T>(number: u32, cell: u32, value: T) -> Result<T, Refusal> {
         21 => Refusal::ListLength,
         22 => Refusal::CountOutside,
         23 => Refusal::CellTwice(cell),
-        _ => unreachable!("the library gives 0 to 23"),
+        24 => Refusal::CellsKept,
+        25 => Refusal::NumberDiffers,
+        _ => unreachable!("the library gives 0 to 25"),
     })
 }
 
@@ -313,6 +323,24 @@ pub fn ask_list(book: &mut [u32], pairs: &[(u32, u32)], answers: &mut [Result<()
         *place = answer(number, 0, ());
     }
     Ok(())
+}
+
+/// Drops d→e and gives back its room: later relations move down, and the words that are freed are set to 0. Relations that were
+/// made from it stay; `make`, `euler` and `closures` refuse with `NeedMissing` where they need it, and `ask` makes it again. In a
+/// book that these calls alone have written, a relation that is dropped and made again leaves the same words as before.
+///
+/// ```no_run
+/// # let mut book = vec![0; 500];
+/// daybook::ask(&mut book, 2, 1)?;
+/// daybook::drop_relation(&mut book, 0, 1)?; // it served to make 2→1
+/// daybook::ask(&mut book, 2, 2)?;
+/// # Ok::<(), daybook::Refusal>(())
+/// ```
+pub fn drop_relation(book: &mut [u32], d: u32, e: u32) -> Result<(), Refusal> {
+    let mut place = Place::default();
+    // SAFETY: as in `load`.
+    let number = unsafe { c::daybook_drop(book.as_mut_ptr(), book.len(), d, e, &mut place.key, &mut place.position) };
+    place.answer(book, number, ())
 }
 
 /// Row i of d→e: the part of the book itself, ascending.

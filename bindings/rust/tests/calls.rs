@@ -63,6 +63,79 @@ fn a_list_that_is_refused_alters_nothing() {
     assert_eq!(daybook::ask_list(&mut [], &[(2, 1)], &mut []), Err(Refusal::PairsOff));
 }
 
+/// T with all nine relations and three free words. 0→0 begins at word 5, 1→0 at 46, 1→2 at 84, 2→0 at 96.
+fn all_nine() -> Vec<u32> {
+    let mut book = loaded(122);
+    (0..9).try_for_each(|k| daybook::ask(&mut book, k / 3, k % 3)).unwrap();
+    book
+}
+
+#[test]
+fn a_relation_is_dropped_and_made_again() {
+    let before = all_nine();
+    let mut book = before.clone();
+    assert_eq!(daybook::drop_relation(&mut book, 1, 0), Ok(()));
+    assert_eq!(book[..5], [before[0], before[1] - 16, 5, 0, 103]);
+    assert_eq!(book[5..46], before[5..46]);
+    assert_eq!(book[46..103], before[62..119]);
+    assert_eq!(book[103..], [0; 19]);
+    assert_eq!(daybook::held_count(&book), Ok(8));
+    assert_eq!(daybook::row(&book, 2, 1, 1), Ok(&[2, 3, 4][..]));
+    assert_eq!(daybook::row(&book, 1, 0, 0), Err(Refusal::NotHeld));
+    assert_eq!(daybook::euler(&book), Err(Refusal::NeedMissing));
+    assert_eq!(daybook::make(&mut book, 1, 0), Ok(()));
+    assert_eq!(book, before);
+    for (d, e) in [(0, 0), (0, 1), (1, 1), (1, 2), (2, 1), (2, 2)] {
+        assert_eq!(daybook::drop_relation(&mut book, d, e), Ok(()));
+        assert_eq!(daybook::ask(&mut book, d, e), Ok(()));
+        assert_eq!(book, before);
+    }
+}
+
+#[test]
+fn a_count_is_kept_while_a_relation_names_it() {
+    let mut book = all_nine();
+    for ((d, e), edges) in [((1, 0), 5), ((0, 1), 5), ((1, 1), 5), ((1, 2), 5), ((2, 1), 0)] {
+        assert_eq!(daybook::drop_relation(&mut book, d, e), Ok(()));
+        assert_eq!(book[2], edges);
+    }
+    assert_eq!(book[4], 45);
+    assert_eq!(daybook::ask(&mut book, 2, 1), Ok(()));
+    let mut fresh = loaded(122);
+    for (d, e) in [(2, 1), (0, 0), (0, 2), (2, 2)] {
+        daybook::ask(&mut fresh, d, e).unwrap();
+    }
+    assert_eq!(book, fresh);
+}
+
+#[test]
+fn drops_are_refused() {
+    let before = all_nine();
+    let mut book = before.clone();
+    assert_eq!(daybook::drop_relation(&mut book, 3, 0), Err(Refusal::DimensionOver));
+    assert_eq!(daybook::drop_relation(&mut book, 0, 3), Err(Refusal::DimensionOver));
+    assert_eq!(daybook::drop_relation(&mut book, 2, 0), Err(Refusal::CellsKept));
+    assert_eq!(book, before);
+    assert_eq!(daybook::drop_relation(&mut loaded(20), 1, 0), Err(Refusal::NotHeld));
+    assert_eq!(daybook::drop_relation(&mut [], 1, 0), Err(Refusal::FrameBroken));
+}
+
+#[test]
+fn a_book_that_lies_about_its_edges_is_refused() {
+    let mut book = loaded(60);
+    daybook::ask(&mut book, 0, 1).unwrap();
+    daybook::drop_relation(&mut book, 1, 0).unwrap();
+    book[2] = 6; // 0→1 keeps N_1, and T has 5 edges
+    let before = book.clone();
+    assert_eq!(daybook::make(&mut book, 1, 0), Err(Refusal::NumberDiffers));
+    assert_eq!(daybook::ask(&mut book, 1, 1), Err(Refusal::NumberDiffers));
+    let mut answers = [Ok(()); 3];
+    assert_eq!(daybook::ask_list(&mut book, &[(2, 1), (0, 1), (1, 0)], &mut answers), Ok(()));
+    assert_eq!(answers, [Err(Refusal::NumberDiffers), Ok(()), Err(Refusal::NumberDiffers)]);
+    assert_eq!(book, before);
+    assert_eq!(Refusal::NumberDiffers.to_string(), "refused 25");
+}
+
 #[test]
 fn a_row_is_the_books_own_memory() {
     let book = loaded(14);
@@ -183,10 +256,9 @@ fn books_and_numbers_are_refused() {
     assert_eq!(Refusal::VertexOut(3).to_string(), "refused 7, cell 3");
 }
 
-/// T with all nine relations and three free words, and this word changed. 0→0 begins at word 5, 1→0 at 46, 1→2 at 84, 2→0 at 96.
+/// T with all nine relations and three free words, and this word changed.
 fn broken(at: usize, word: u32) -> Vec<u32> {
-    let mut book = loaded(122);
-    (0..9).try_for_each(|k| daybook::ask(&mut book, k / 3, k % 3)).unwrap();
+    let mut book = all_nine();
     book[at] = word;
     book
 }
@@ -210,6 +282,7 @@ fn a_refusal_says_where_the_book_is_broken() {
         let refusal = Refusal::RowsBroken { key, position };
         assert_eq!(daybook::make(&mut book, 9, 9), Err(refusal));
         assert_eq!(daybook::ask(&mut book, 2, 0), Err(refusal));
+        assert_eq!(daybook::drop_relation(&mut book, 9, 9), Err(refusal));
         assert_eq!(daybook::write(&book, &mut []), Err(refusal));
         assert_eq!(daybook::euler(&book), Err(refusal));
         assert_eq!(daybook::closures(&book, &[], &mut [], &mut [], &mut []), Err(refusal));
@@ -236,8 +309,9 @@ fn numbers_are_the_papers() {
         Refusal::RowsBroken { key: 0, position: Position::Offset(0) }, Refusal::DimensionOver, Refusal::NoRoom, Refusal::AlreadyHeld,
         Refusal::NeedMissing, Refusal::NotHeld, Refusal::NoSuchEntity, Refusal::BufferTooShort,
         Refusal::NoSuchIndex, Refusal::PairsOff, Refusal::ListLength, Refusal::CountOutside, Refusal::CellTwice(0),
+        Refusal::CellsKept, Refusal::NumberDiffers,
     ];
-    assert!(all.iter().map(|r| r.number()).eq(1..=23));
+    assert!(all.iter().map(|r| r.number()).eq(1..=25));
     assert_eq!(Refusal::RowsBrokenSomewhere.number(), 11);
     assert_eq!(Refusal::RowsBrokenSomewhere.to_string(), "refused 11");
 }

@@ -52,14 +52,21 @@ pub fn key(d: u32, e: u32) -> u32
     4 * d + e
 }
 
-// Whether the relation of key k is held.
-pub fn held(book: &[u32], k: u32) -> bool
-    ensures { λ r. ⌜ r ≡ rule.held (now (book .entry)) k ⌝ }
+// Whether the mask, a sum of powers of two, has 2^k in it.
+pub fn named(mask: u32, k: u32) -> bool
+    ensures { λ r. ⌜ r ≡ rule.named mask k ⌝ }
 {
     if k >= 32 {
         return false;
     }
-    (word(book, Place(1)) >> k) % 2 == 1
+    (mask >> k) % 2 == 1
+}
+
+// Whether the relation of key k is held.
+pub fn held(book: &[u32], k: u32) -> bool
+    ensures { λ r. ⌜ r ≡ rule.held (now (book .entry)) k ⌝ }
+{
+    named(word(book, Place(1)), k)
 }
 
 // The place behind the relation of key k, which stands at `at`.

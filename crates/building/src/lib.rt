@@ -1,4 +1,4 @@
-// Build: d→0 with 0 < d < D, from the cells' vertex sets, written behind the used words.
+// Build: d→0 with 0 < d < D, from the cells' vertex sets, written behind the used words; or only counted.
 mod candidates;
 mod meet;
 mod write;
@@ -8,7 +8,7 @@ use meet::meet_cells;
 use write::write_sets;
 ghost use mathlib.Core.Path.{_≡_};
 ghost use Prim.Native.Nat.{_<_};
-ghost use lib.ListN.{length};
+ghost use lib.ListN.{length, getD};
 ghost use Rattle.rules.specs.Book.{relation};
 ghost use Rattle.rules.specs.Made.{made};
 ghost use Rattle.relations.specs.Words.{Written};
@@ -52,4 +52,27 @@ pub fn build(book: &mut [u32], cells: Cells, d: u32, dst: Place) -> Built
     );
     let end = write_sets(book, &sets, dst, n, d);
     Built { end: end, count: n }
+}
+
+// How many entities Build finds for d→0, 0 < d < D; no word is written.
+pub fn found(book: &[u32], cells: Cells, d: u32) -> u32
+    requires { ⌜ Ready (now book) d 0 (getD (now book) 4 0) ⌝ }
+    requires { ⌜ Source (now book) (cells .dim) (cells .at .0) (cells .count) ⌝ }
+    requires { ⌜ 0 < d ⌝ }
+    ensures { λ r. ⌜ r ≡ length (made (now (book .entry)) d 0) ⌝ }
+{
+    let mut sets = [0u32; 73728];
+    let mut head = [0u32; 8192];
+    let mut next = [0u32; 24576];
+    let at = cells.at;
+    meet_cells(
+        book,
+        &mut sets,
+        &mut head,
+        &mut next,
+        at,
+        cells.count as usize,
+        cells.dim,
+        d,
+    )
 }

@@ -6,9 +6,10 @@ use native.Mathlib.Numerals.{add-one}
 use native.Mathlib.Omega.{arith}
 use lib.ListN.{length, getD, set, take, drop, replicate, length-set, drop-of-length-le}
 use lib.Seq.{drop-cons, take-suc-set, take-all}
+use Rattle.rules.specs.Book.{Right}
 use Rattle.rules.specs.Calls.{askNumber, askWords, answersOf, wordsOf}
 use Rattle.rules.proofs.Accepted.{ask-length}
-use Rattle.rules.proofs.RightAsk.{Right, ask-right}
+use Rattle.rules.proofs.RightAsk.{ask-right}
 
 -- after the first i pairs of ps, from the book ws and the answers ns: the book vs and the answers ms
 pub record InTurn (ws ps ns : List ℕ) (i : ℕ) (vs ms : List ℕ) : Type 0 where

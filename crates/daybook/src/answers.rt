@@ -1,4 +1,4 @@
-// What Make, Ask and a list of asks answer: accepted, or one of their refusals.
+// What Make, Ask, Drop and a list of asks answer: accepted, or one of their refusals.
 use rows::Broken;
 ghost use mathlib.Core.Path.{_≡_};
 ghost use Rattle.daybook.specs.Answers.{askedNumber};
@@ -11,6 +11,7 @@ pub enum Made {
     DimensionOver,
     AlreadyHeld,
     NeedMissing,
+    NumberDiffers,
     NoRoom,
 }
 
@@ -20,6 +21,7 @@ pub enum Asked {
     FrameBroken,
     RowsBroken(Broken),
     DimensionOver,
+    NumberDiffers,
     NoRoom,
 }
 
@@ -32,6 +34,7 @@ pub fn asked_number(answer: Asked) -> u32
         Asked::FrameBroken => 10,
         Asked::RowsBroken(_) => 11,
         Asked::DimensionOver => 12,
+        Asked::NumberDiffers => 25,
         Asked::NoRoom => 13,
     }
 }
@@ -40,4 +43,14 @@ pub fn asked_number(answer: Asked) -> u32
 pub enum Listed {
     Accepted,
     PairsOff,
+}
+
+// Drop's answer.
+pub enum Dropped {
+    Accepted,
+    FrameBroken,
+    RowsBroken(Broken),
+    DimensionOver,
+    NotHeld,
+    CellsKept,
 }

@@ -9,7 +9,7 @@ ghost use Rattle.rules.specs.Broken.{brokenAt, told};
 ghost use Rattle.rules.specs.Calls.{askNumber, askWords};
 ghost use Rattle.daybook.specs.Answers.{askedNumber, askedPlace};
 
-// Ask in a book whose frame and rows are right. Refusals: 12, 13.
+// Ask in a book whose frame and rows are right. Refusals: 12, 25, 13.
 pub(crate) fn ask_right(book: &mut [u32], d: u32, e: u32) -> Asked
     requires { ⌜ (frameRight (now book) ≡ true) × (rowsRight (now book) ≡ true) ⌝ }
     ensures number { λ r. ⌜ askedNumber r ≡ askNumber (now (book .entry)) d e ⌝ }
@@ -23,13 +23,16 @@ pub(crate) fn ask_right(book: &mut [u32], d: u32, e: u32) -> Asked
     if e > top {
         return Asked::DimensionOver;
     }
+    if making::ask_differs(book, d, e) {
+        return Asked::NumberDiffers;
+    }
     if !making::ask_for(book, book::key(d, e)) {
         return Asked::NoRoom;
     }
     Asked::Accepted
 }
 
-// Makes d→e and, as far as missing, everything it is made from, or nothing at all. Refusals: 10, 11, 12, 13.
+// Makes d→e and, as far as missing, everything it is made from, or nothing at all. Refusals: 10, 11, 12, 25, 13.
 pub fn ask(book: &mut [u32], d: u32, e: u32) -> Asked
     ensures number { λ r. ⌜ askedNumber r ≡ askNumber (now (book .entry)) d e ⌝ }
     ensures place { λ r. ⌜ askedPlace r ≡ told (askNumber (now (book .entry)) d e) (brokenAt (now (book .entry))) ⌝ }

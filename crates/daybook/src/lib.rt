@@ -5,11 +5,12 @@
 // words, and each relation more takes N_d + 1 words and one for each index. A call that does not
 // fit is refused and alters nothing.
 //
-// Word 0 is the file's first 32 bits, word 1 the sum of 2^(4d+e) over the relations d→e held,
-// words 2 and 3 are N_1 and N_2 where they are known, word 4 is the used length, and behind them
-// stand the relations by ascending 4d+e: N_d + 1 offsets, then the indices. Row i runs from offset
-// i up to, but without, offset i + 1. No two rows of D→0 are equal. All words from the used length
-// on are 0.
+// Word 0 is the file's first 32 bits, word 1 the sum of 2^(4d+e) over the relations d→e held, word
+// 1 + d for d = 1, 2 is N_d while d < D and some relation held names d, else 0, word 4 is the used
+// length, and behind them stand the relations by ascending 4d+e: N_d + 1 offsets, then the indices.
+// Row i runs from offset i up to, but without, offset i + 1. No two rows of D→0 are equal. All words
+// from the used length on are 0. A relation may outlast what it was made from: `drop_relation` takes
+// one out and gives back its words.
 //
 // No call asks anything of its caller. On a refusal nothing that was lent is altered.
 //
@@ -27,12 +28,12 @@
 // | 10  | the frame rule is broken                                    | all but load, ask_list  |
 // | 11  | the row rule is broken; for row and find, the row's own     | all but load, ask_list, |
 // |     | offsets alone; with where: a key and a position             | held_count              |
-// | 12  | d or e is over D; for close, D is 1                         | make, ask, row, find,   |
-// |     |                                                             | close                   |
+// | 12  | d or e is over D; for close, D is 1                         | make, ask, drop, row,   |
+// |     |                                                             | find, close             |
 // | 13  | the used length afterwards would pass the book's length     | load, make, ask         |
 // | 14  | the relation is held already                                | make                    |
 // | 15  | something that is needed is not held                        | make, euler, close      |
-// | 16  | the relation is not held                                    | row, find               |
+// | 16  | the relation is not held                                    | drop, row, find         |
 // | 17  | i is N_d or more                                            | row, find               |
 // | 18  | the byte buffer is shorter than the file                    | write                   |
 // | 19  | j is N_e or more                                            | find                    |
@@ -41,14 +42,19 @@
 // | 22  | a count is not from −32,768 to 32,767, nor 65,536           | close                   |
 // | 23  | a cell has the vertices of an earlier one; with the lowest  | load, before 9          |
 // |     | such cell                                                   |                         |
+// | 24  | the relation is D→0                                         | drop                    |
+// | 25  | d→0 has to be made, N_d is kept by another relation, and    | make, ask, before 13    |
+// |     | the number of entities found differs                        |                         |
 //
 // ask_list gives no other number as a call: what each of its asks is refused for stands among its answers.
 mod answers;
 mod asks;
+mod drops;
 mod lists;
 mod makes;
 
 pub use answers::Asked;
+pub use answers::Dropped;
 pub use answers::Listed;
 pub use answers::Made;
 pub use answers::asked_number;
@@ -56,6 +62,7 @@ pub use asks::ask;
 pub use closing::Closed;
 pub use closing::close;
 pub use closing::closed_number;
+pub use drops::drop_relation;
 pub use lists::ask_list;
 pub use loading::Loaded;
 pub use loading::load;

@@ -28,7 +28,7 @@ fn needs_held(book: &[u32], d: u32, e: u32) -> bool
     true
 }
 
-// Makes d→e from what the book stores. Refusals: 10, 11, 12, 14, 15, 13.
+// Makes d→e from what the book stores. Refusals: 10, 11, 12, 14, 15, 25, 13.
 pub fn make(book: &mut [u32], d: u32, e: u32) -> Made
     ensures number { λ r. ⌜ madeNumber r ≡ makeNumber (now (book .entry)) d e ⌝ }
     ensures place { λ r. ⌜ madePlace r ≡ told (makeNumber (now (book .entry)) d e) (brokenAt (now (book .entry))) ⌝ }
@@ -52,6 +52,9 @@ pub fn make(book: &mut [u32], d: u32, e: u32) -> Made
     }
     if !needs_held(book, d, e) {
         return Made::NeedMissing;
+    }
+    if making::make_differs(book, d, e) {
+        return Made::NumberDiffers;
     }
     if !making::add(book, d, e) {
         return Made::NoRoom;

@@ -7,12 +7,13 @@ ghost use lib.Dec.{eqb};
 ghost use Rattle.rules.specs.Book.{rowStart, rowOf};
 ghost use Rattle.rules.specs.Book as rule;
 ghost use Rattle.rules.specs.Broken.{brokenKey, brokenPlace, brokenOffset};
-ghost use Rattle.rules.specs.Calls.{faultCell, loadNumber, loadWords, makeNumber, makeWords, askNumber, askWords, listNumber, listAnswers, listWords, rowNumber, findNumber, findFound, findRead, writeNumber, writeLength, writeBytes, eulerNumber, eulerOf, heldNumber, heldCount};
+ghost use Rattle.rules.specs.Calls.{faultCell, loadNumber, loadWords, makeNumber, makeWords, askNumber, askWords, dropNumber, dropWords, listNumber, listAnswers, listWords, rowNumber, findNumber, findFound, findRead, writeNumber, writeLength, writeBytes, eulerNumber, eulerOf, heldNumber, heldCount};
 ghost use Rattle.rules.specs.Closures.{closeNumber, closuresAfter, stepsAfter, bytesAfter};
 use book::Place;
 use daybook::Asked;
 use daybook::Closed;
 use daybook::Counted;
+use daybook::Dropped;
 use daybook::EulerNumber;
 use daybook::Found;
 use daybook::Listed;
@@ -78,6 +79,7 @@ pub extern "C" fn daybook_make(
         Made::DimensionOver => 12,
         Made::AlreadyHeld => 14,
         Made::NeedMissing => 15,
+        Made::NumberDiffers => 25,
         Made::NoRoom => 13,
     }
 }
@@ -105,6 +107,7 @@ pub extern "C" fn daybook_ask(
             11
         }
         Asked::DimensionOver => 12,
+        Asked::NumberDiffers => 25,
         Asked::NoRoom => 13,
     }
 }
@@ -119,6 +122,34 @@ pub extern "C" fn daybook_ask_list(book: &mut [u32], pairs: &[u32], answers: &mu
     match daybook::ask_list(book, pairs, answers) {
         Listed::Accepted => 0,
         Listed::PairsOff => 20,
+    }
+}
+
+// Takes d→e out of the book and gives back its room; with 11 the key and the position are written.
+#[no_mangle]
+pub extern "C" fn daybook_drop(
+    book: &mut [u32],
+    d: u32,
+    e: u32,
+    key: &mut u32,
+    position: &mut usize,
+) -> u32
+    ensures number { λ r. ⌜ r ≡ dropNumber (now (book .entry)) d e ⌝ }
+    ensures key { λ r. ⌜ now (key .exit) ≡ cond (eqb r 11) (brokenKey (now (book .entry))) (now (key .entry)) ⌝ }
+    ensures position { λ r. ⌜ now (position .exit) ≡ cond (eqb r 11) (brokenPlace (now (book .entry))) (now (position .entry)) ⌝ }
+    ensures words { λ r. ⌜ now (book .exit) ≡ dropWords (now (book .entry)) d e ⌝ }
+{
+    match daybook::drop_relation(book, d, e) {
+        Dropped::Accepted => 0,
+        Dropped::FrameBroken => 10,
+        Dropped::RowsBroken(place) => {
+            *key = place.key;
+            *position = place.position;
+            11
+        }
+        Dropped::DimensionOver => 12,
+        Dropped::NotHeld => 16,
+        Dropped::CellsKept => 24,
     }
 }
 
@@ -152,9 +183,10 @@ pub extern "C" fn daybook_row(
 {
     match daybook::row_answer(book, d, e, i) {
         RowAnswer::Accepted => {
-            let row = daybook::row(book, d, e, i);
+            let k = book::key(d, e);
+            let row = rows::row(book, k, i);
             *count = row.len();
-            *start = place_of_row(book, book::key(d, e), i).0;
+            *start = place_of_row(book, k, i).0;
             0
         }
         RowAnswer::FrameBroken => 10,

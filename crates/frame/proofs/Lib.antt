@@ -1,4 +1,4 @@
 pub mod Listed
 pub mod FrameLeft
-pub mod Needed
+pub mod Naming
 pub mod Determined

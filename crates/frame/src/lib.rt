@@ -1,8 +1,8 @@
 // The frame rule: word 0, the keys, the numbers N_1 and N_2, and the used length.
 ghost use mathlib.Core.Path.{_≡_};
 ghost use mathlib.Core.Bool.{_&&_};
-ghost use Prim.Native.Nat.{ℕ, _/_, _%_, _≤_, _<_};
-ghost use lib.ListN.{length, getD, take};
+ghost use Prim.Native.Nat.{_/_, _%_, _≤_, _<_};
+ghost use lib.ListN.{length, getD};
 ghost use lib.Dec.{eqb, leb};
 ghost use Rattle.rules.specs.Lists.{allOf, filled};
 ghost use Rattle.rules.specs.Book as rule;
@@ -78,68 +78,15 @@ pub fn needs_of(top: u32, d: u32, e: u32) -> Needs
     }
 }
 
-// Whether what d→0 is made from is held: D→0, and for 0→0 also 0→D.
-fn made_from_cells_held(book: &[u32], d: u32) -> bool
-    ensures { λ r. ⌜ r ≡ allOf (rule.held (now (book .entry))) (rule.needs (rule.dim (now (book .entry))) d 0) ⌝ }
-{
-    let top = dim(book);
-    if d == 0 {
-        if !held(book, key(0, top)) {
-            return false;
-        }
-        return held(book, key(top, 0));
-    }
-    if d == top {
-        return true;
-    }
-    held(book, key(top, 0))
-}
-
-// What d→e with e > 0 is made from, by its key: the sum of 2^key over the relations named.
-const NEEDED: [u32; 16] = [
-    0,
-    16, // 0→1 from 1→0
-    256, // 0→2 from 2→0
-    4096, // 0→3 from 3→0
-    0,
-    18, // 1→1 from 1→0, 0→1
-    512, // 1→2 from 2→1
-    8192, // 1→3 from 3→1
-    0,
-    274, // 2→1 from 2→0, 0→1, 1→0
-    260, // 2→2 from 2→0, 0→2
-    16384, // 2→3 from 3→2
-    0,
-    4114, // 3→1 from 3→0, 0→1, 1→0
-    4356, // 3→2 from 3→0, 0→2, 2→0
-    4104, // 3→3 from 3→0, 0→3
-];
-
-// Whether what the relation of key k is made from is held.
-fn made_from_held(book: &[u32], k: u32) -> bool
-    requires { ⌜ k < 16 ⌝ }
-    ensures { λ r. ⌜ r ≡ allOf (rule.held (now (book .entry))) (rule.needs (rule.dim (now (book .entry))) (k / 4) (k % 4)) ⌝ }
-{
-    if k % 4 == 0 {
-        return made_from_cells_held(book, k / 4);
-    }
-    let needed = NEEDED[k as usize];
-    word(book, Place(1)) & needed == needed
-}
-
-// Whether the key names only d and e up to D, and what d→e is made from is held.
+// Whether the key names only d and e up to D.
 fn key_right(book: &[u32], k: u32) -> bool
-    requires { ⌜ k < 16 ⌝ }
     ensures { λ r. ⌜ r ≡ rule.keyRight (now (book .entry)) k ⌝ }
 {
     let top = dim(book);
     if k / 4 > top {
         return false;
     }
-    if k % 4 > top {
-        return false;
-    }
-    made_from_held(book, k)
+    k % 4 <= top
 }
 
 // Whether each key held is right.
@@ -168,7 +115,23 @@ fn most(top: u32, d: u32) -> u32
     if d == 1 { 6 } else { 4 }
 }
 
-// Whether word 1 + d is N_d, within its bound, where d < D and d→0 is held, else 0.
+// The keys that name d, as their first or their second dimension, by d: the sum of 2^key over them.
+const NAMING: [u32; 4] = [
+    4383, // 0→0, 0→1, 0→2, 0→3, 1→0, 2→0, 3→0
+    8946, // 1→0, 1→1, 1→2, 1→3, 0→1, 2→1, 3→1
+    20292, // 2→0, 2→1, 2→2, 2→3, 0→2, 1→2, 3→2
+    63624, // 3→0, 3→1, 3→2, 3→3, 0→3, 1→3, 2→3
+];
+
+// Whether one of the relations that the mask names has d as its first or its second dimension.
+pub fn mentions(mask: u32, d: u32) -> bool
+    requires { ⌜ d < 4 ⌝ }
+    ensures { λ r. ⌜ r ≡ rule.mentions (rule.named mask) d ⌝ }
+{
+    mask & NAMING[d as usize] != 0
+}
+
+// Whether word 1 + d is N_d, within its bound, where d < D and some relation held names d, else 0.
 fn count_right(book: &[u32], d: u32) -> bool
     ensures { λ r. ⌜ r ≡ rule.countRight (now (book .entry)) d ⌝ }
 {
@@ -177,7 +140,7 @@ fn count_right(book: &[u32], d: u32) -> bool
     if d >= top {
         return n == 0;
     }
-    if !held(book, key(d, 0)) {
+    if !mentions(word(book, Place(1)), d) {
         return n == 0;
     }
     n <= most(top, d) * count(book, top)

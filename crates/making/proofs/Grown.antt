@@ -9,14 +9,13 @@ use lib.ListN.{length, getD}
 use lib.Dec.{eqb, ltb, leb}
 use borrow.Author.Tests.{le-leb, lt-leb, eqb-true, eq-eqb, ne-eqb, lt-ltb, le-ltb}
 use Rattle.rules.specs.Lists.{filled}
-use Rattle.rules.specs.Book.{dim, key, held, place, relation}
+use Rattle.rules.specs.Book.{dim, key, held, place, relation, Right}
 use Rattle.rules.specs.Made.{made}
 use Rattle.rules.specs.Calls.{countAfter, added}
 use Rattle.rules.proofs.Masks.{one-small, mask-more}
 use Rattle.rules.proofs.Slices.{getD-front}
 use Rattle.rules.proofs.FrameRule.{Framed, framed, place-rises}
 use Rattle.rules.proofs.MadeFits.{make-below}
-use Rattle.rules.proofs.RightAsk.{Right}
 use Rattle.rules.proofs.Growing.{length-added}
 use Rattle.relations.specs.Words.{Written}
 use Rattle.relations.specs.Ready.{Ready}

@@ -3,3 +3,5 @@ pub mod Grown
 mod Dispatch
 mod Walk
 mod Reached
+mod Differing
+mod TakenOut

@@ -8,14 +8,13 @@ use lib.ListN.{length, getD, take}
 use lib.Dec.{leb}
 use borrow.Author.Tests.{le-leb, lt-leb, leb-true, leb-false}
 use Rattle.rules.specs.Lists.{filled}
-use Rattle.rules.specs.Book.{dim, key, held}
+use Rattle.rules.specs.Book.{dim, key, named, held, Right}
 use Rattle.rules.specs.Calls.{added}
 use Rattle.rules.specs.Steps.{nextKey, givenBack}
 use Rattle.rules.proofs.Masks.{pow-pos}
 use Rattle.rules.proofs.FrameRule.{Framed, framed}
 use Rattle.rules.proofs.Needs.{key-again}
 use Rattle.rules.proofs.LoadedWords.{getD-filled}
-use Rattle.rules.proofs.RightAsk.{Right}
 use Rattle.rules.proofs.Growing.{Grown, Under, under-start, under-held, under-fits, under-more, under-stuck, next-new, next-needed, next-first, next-second, back-again}
 use Rattle.settle.specs.Settled.{Leaves}
 use Rattle.making.specs.Growth.{Makable, grown, Askable, wanted, Keeps, Holds, answered}
@@ -38,14 +37,20 @@ module _ (ws : List ℕ) (k : ℕ) (a : Askable ws k) where
   right = record { frame = a .frame; rows = a .rows }
 
   pub begins : Under ws k ws
-  begins = under-start ws k right
+  unfolding wanted
+  begins = under-start ws k right (a .alike)
 
   module _ (vs : List ℕ) (u : Under ws k vs) where
     f : Framed vs
     f = framed vs (u .right .frame)
 
-    pub near : (dim vs ≤ 3) × (k < 16)
-    near = (f .high, omega (arith, a .first, u .dims, f .high))
+    pub near : (D : ℕ) → D ≡ dim vs → (D ≤ 3) × (k < 16)
+    near D q = (omega (arith, f .high), omega (arith, a .first, u .dims, f .high))
+
+    -- the next key, from D and word 1
+    pub next-same : (D m y : ℕ) → D ≡ dim vs → m ≡ getD vs 1 0 → y ≡ nextKey 6 D (named m) k → y ≡ nextKey 6 (dim vs) (held vs) k
+    unfolding held
+    next-same D m y p q e = rw (p, q) at e
 
     keeps : Keeps ws vs
     keeps = record {
@@ -63,8 +68,8 @@ module _ (ws : List ℕ) (k : ℕ) (a : Askable ws k) where
     done b q o =
         let h : held vs k ≡ true = sym q ∙ was-on b o in
         record {
-          fits = sym (le-leb _ _ (under-fits ws k (a .first) (a .second) vs u h));
-          words = λ t. under-held ws k (a .first) (a .second) vs u h;
+          fits = sym (le-leb _ _ (under-fits ws right k (a .first) (a .second) vs u h));
+          words = λ t. under-held ws right k (a .first) (a .second) vs u h;
           keeps = keeps;
         }
 
@@ -77,10 +82,10 @@ module _ (ws : List ℕ) (k : ℕ) (a : Askable ws k) where
       makable = record {
         frame = u .right .frame;
         rows = u .right .rows;
-        first = rw z (next-first ws k (a .first) (a .second) vs u off);
-        second = rw z (next-second ws k (a .first) (a .second) vs u off);
-        new = rw (key-again y, z) (next-new ws k (a .first) (a .second) vs u off);
-        sources = rw z (next-needed ws k (a .first) (a .second) vs u off);
+        first = rw z (next-first ws right k (a .first) (a .second) vs u off);
+        second = rw z (next-second ws right k (a .first) (a .second) vs u off);
+        new = rw (key-again y, z) (next-new ws right k (a .first) (a .second) vs u off);
+        sources = rw z (next-needed ws right k (a .first) (a .second) vs u off);
       }
 
       module _ (r : Bool) (s : r ≡ leb (length (added vs (y / 4) (y % 4))) (length vs)) (us : List ℕ) (t : us ≡ grown vs (y / 4) (y % 4)) where
@@ -92,7 +97,7 @@ module _ (ws : List ℕ) (k : ℕ) (a : Askable ws k) where
             let l = rw z at m in
             let e : us ≡ vs = t ∙ grown-none vs (y / 4) (y % 4) x in
             record {
-              fits = sym (lt-leb _ _ (under-stuck ws k (a .first) (a .second) vs u off l));
+              fits = sym (lt-leb _ _ (under-stuck ws right k (a .first) (a .second) vs u off l));
               words = λ t. absurd (true≢false (sym t));
               keeps = rw e keeps;
             }
@@ -108,7 +113,7 @@ module _ (ws : List ℕ) (k : ℕ) (a : Askable ws k) where
           further =
               let m : length (added vs (y / 4) (y % 4)) ≤ length vs = leb-true (length (added vs (y / 4) (y % 4))) (length vs) fit in
               let l = rw z at m in
-              rw (more, z) (under-more ws k (a .first) (a .second) vs u off l)
+              rw (more, z) (under-more ws right k (a .first) (a .second) vs u off l)
 
           pub less : 2 ^ 16 - getD us 1 0 < 2 ^ 16 - getD vs 1 0
           less = rw (more, second-word) (omega (arith, f .mask, pow-pos (key (y / 4) (y % 4))))

@@ -86,6 +86,11 @@ unfolding onward
 onward-small D h k a b =
     ltb-true _ _ (first-keeps h (λ x. ltb x 16) k (needs D (k / 4) (k % 4)) (lt-ltb k 16 b) (needs-small D (k / 4) (k % 4) (kind (k / 4) (k % 4)) a (omega arith) (omega arith)))
 
+pub next-small : (n D : ℕ) (h : ℕ → Bool) (k : ℕ) → D ≤ 3 → k < 16 → nextKey n D h k < 16
+unfolding nextKey
+next-small zero D h k a b = b
+next-small (suc n) D h k a b = next-small n D h (onward D h k) a (onward-small D h k a b)
+
 -- ---- one step of the way
 pub next-step : (n D : ℕ) (h : ℕ → Bool) (k : ℕ) → 0 < n → nextKey (n - 1) D h (onward D h k) ≡ nextKey n D h k
 unfolding nextKey

@@ -1,14 +1,14 @@
--- A book with one relation more, or as it was where that does not fit; and what the steps on the way to a relation ask and leave.
+-- A book with one relation more, or as it was where that does not fit; what the steps on the way to a relation ask and leave; and one relation less.
 use mathlib.Core.Path.{_≡_}
 use mathlib.Core.Bool.{Bool, true, false, cond}
 use mathlib.Core.List.{List}
-use Prim.Native.Nat.{ℕ, _/_, _%_, _≤_, _<_}
+use Prim.Native.Nat.{ℕ, _/_, _%_, _^_, _≤_, _<_}
 use lib.ListN.{length, getD, take}
 use lib.Dec.{leb}
 use Rattle.rules.specs.Lists.{allOf, filled}
 use Rattle.rules.specs.Book.{dim, key, held, rowsOf, relation, needs, frameRight, rowsRight}
 use Rattle.rules.specs.Made.{made}
-use Rattle.rules.specs.Calls.{added, withKey}
+use Rattle.rules.specs.Calls.{added, differs, withKey}
 use Rattle.relations.specs.Words.{Written}
 
 -- the book is right, d→e is not held, and what it is made from is
@@ -29,16 +29,25 @@ pub record Appends (ws : List ℕ) (d e dst end n : ℕ) (vs : List ℕ) : Type 
 unfoldable pub grown : List ℕ → ℕ → ℕ → List ℕ
 grown ws d e = cond (leb (length (added ws d e)) (length ws)) (filled (length ws) (added ws d e)) ws
 
--- the book is right, and k is the key of a relation between dimensions up to D
+-- D is a mesh dimension, the mask is a sum of powers of two up to 2^15, and k is the key of a relation between dimensions up to D
+pub record Maskable (D mask k : ℕ) : Type 0 where
+  pub low : 0 < D
+  pub high : D ≤ 3
+  pub small : mask < 2 ^ 16
+  pub first : k / 4 ≤ D
+  pub second : k % 4 ≤ D
+
+-- the words, without their free part, with the relation of key k held and, as far as missing, everything it is made from
+unfoldable pub wanted : List ℕ → ℕ → List ℕ
+wanted ws k = withKey 6 (take (getD ws 4 0) ws) k
+
+-- the book is right, k is the key of a relation between dimensions up to D, and no x→0 on the way to it has another number of rows than the N_x that is kept
 pub record Askable (ws : List ℕ) (k : ℕ) : Type 0 where
   pub frame : frameRight ws ≡ true
   pub rows : rowsRight ws ≡ true
   pub first : k / 4 ≤ dim ws
   pub second : k % 4 ≤ dim ws
-
--- the words, without their free part, with the relation of key k held and, as far as missing, everything it is made from
-unfoldable pub wanted : List ℕ → ℕ → List ℕ
-wanted ws k = withKey 6 (take (getD ws 4 0) ws) k
+  pub alike : (x : ℕ) → x < dim ws → held ws (key x 0) ≡ false → held (wanted ws k) (key x 0) ≡ true → differs ws x ≡ false
 
 -- vs is a right book that holds what ws holds, with the same rows
 pub record Keeps (ws vs : List ℕ) : Type 0 where
@@ -58,3 +67,12 @@ pub record Holds (ws : List ℕ) (k : ℕ) (r : Bool) (vs : List ℕ) : Type 0 w
 -- the book with the relation of key k held and everything it is made from, where they fit
 unfoldable pub answered : List ℕ → ℕ → List ℕ
 answered ws k = cond (leb (length (wanted ws k)) (length ws)) (filled (length ws) (wanted ws k)) ws
+
+-- the book is right, and d→e is held and not D→0
+pub record Droppable (ws : List ℕ) (d e : ℕ) : Type 0 where
+  pub frame : frameRight ws ≡ true
+  pub rows : rowsRight ws ≡ true
+  pub first : d ≤ dim ws
+  pub second : e ≤ dim ws
+  pub there : held ws (key d e) ≡ true
+  pub inner : d ≡ dim ws → e ≡ 0 → ⊥

@@ -19,7 +19,7 @@ use Rattle.rules.proofs.TrueRows.{has-incident}
 use Rattle.rules.proofs.TrueFacts.{rows-both-ways, rows-valid, rows-different, rows-in-cell}
 use Rattle.rules.proofs.TrueBook.{book-rows, book-row, count-first, count-second}
 use Rattle.rules.proofs.Faultless.{faultless}
-use Rattle.promises.proofs.Kept.{Kept, kept-held, kept-dim, kept-mask, kept-frame, kept-rows, reached-kept}
+use Rattle.promises.proofs.Kept.{Kept, kept-held, kept-dim, kept-mask, reached-kept, kept-right, kept-alike}
 
 -- a relation d→e held in a kept book: its counts and rows are the mesh's
 module _ (m : Mesh) (ws : List ℕ) (k : Kept m ws) (d e : ℕ) (l : e ≤ m .dims) (h : held ws (key d e) ≡ true) where
@@ -30,13 +30,13 @@ module _ (m : Mesh) (ws : List ℕ) (k : Kept m ws) (d e : ℕ) (l : e ≤ m .di
   is-named = sym (kept-held m ws k (key d e)) ∙ h
 
   pub first-count : count ws d ≡ number m d
-  first-count = ap (λ (w : List ℕ). count w d) (k .words) ∙ count-first m (k .formed) (k .mask) (k .closed) d e four is-named (length ws)
+  first-count = ap (λ (w : List ℕ). count w d) (k .words) ∙ count-first m (k .formed) (k .mask) (k .proper) d e four is-named (length ws)
 
   pub second-count : count ws e ≡ number m e
-  second-count = ap (λ (w : List ℕ). count w e) (k .words) ∙ count-second m (k .formed) (k .mask) (k .closed) d e four is-named (length ws)
+  second-count = ap (λ (w : List ℕ). count w e) (k .words) ∙ count-second m (k .formed) (k .mask) (k .proper) d e four is-named (length ws)
 
   pub row-true : (i : ℕ) → i < number m d → rowOf ws (key d e) i ≡ trueRow m d e i
-  row-true i x = ap (λ (w : List ℕ). rowOf w (key d e) i) (k .words) ∙ book-row m (k .formed) (k .mask) (k .closed) d e four is-named (length ws) i x
+  row-true i x = ap (λ (w : List ℕ). rowOf w (key d e) i) (k .words) ∙ book-row m (k .formed) (k .mask) (k .proper) d e four is-named (length ws) i x
 
   index-valid : (i j : ℕ) → i < count ws d → has j (rowOf ws (key d e) i) ≡ true → (j < count ws e) × (count ws e ≡ number m e)
   index-valid i j a t =
@@ -47,7 +47,7 @@ module _ (m : Mesh) (ws : List ℕ) (k : Kept m ws) (d e : ℕ) (l : e ≤ m .di
 pub held-true : HeldTrue
 held-true m ws r j h =
     let k = reached-kept m ws r in
-    ap (λ (w : List ℕ). rowsOf w j) (k .words) ∙ book-rows m (k .formed) (k .mask) (k .closed) (length ws) j (sym (kept-held m ws k j) ∙ h)
+    ap (λ (w : List ℕ). rowsOf w j) (k .words) ∙ book-rows m (k .formed) (k .mask) (k .proper) (length ws) j (sym (kept-held m ws k j) ∙ h)
 
 pub different : Different
 different m ws r d i j p l h a b e =
@@ -91,12 +91,13 @@ given-out m ws r d e i j t = go (eqb (rowNumber ws d e i) 0) refl (rw (row-is ws
 pub found-true : FoundTrue
 found-true m ws r d e i j z =
     let k = reached-kept m ws r in
+    let g = kept-right m ws k in
     let (z₀, w) = finds ws d e i j z in
     let a = rowed ws d e i z₀ in
     let l : e ≤ m .dims = rw (kept-dim m ws k) at (a .second) in
     let x : i < number m d = rw (first-count m ws k d e l (a .there)) at (a .below) in
     let y : j < number m e = rw (second-count m ws k d e l (a .there)) at w in
-    find-has ws (kept-frame m ws k) (kept-rows m ws k) d e i j z ∙ ap (has j) (row-true m ws k d e l (a .there) i x) ∙ has-incident m d e i j y
+    find-has ws (g .frame) (g .rows) d e i j z ∙ ap (has j) (row-true m ws k d e l (a .there) i x) ∙ has-incident m d e i j y
 
 pub determined : Determined
 determined m ws r =
@@ -107,12 +108,11 @@ pub alike : Alike
 alike m ws vs r s l h =
     let a = reached-kept m ws r in
     let b = reached-kept m vs s in
-    let e : a .mask ≡ b .mask = masks-equal 16 (a .mask) (b .mask) (a .closed .small) (b .closed .small) (λ j x. sym (kept-held m ws a j) ∙ h j x ∙ kept-held m vs b j) in
+    let e : a .mask ≡ b .mask = masks-equal 16 (a .mask) (b .mask) (a .proper .small) (b .proper .small) (λ j x. sym (kept-held m ws a j) ∙ h j x ∙ kept-held m vs b j) in
     a .words ∙ rw (l, e) (sym (b .words))
 
 pub nothing-else : NothingElse
 nothing-else m ws r =
     let k = reached-kept m ws r in
-    let f = kept-frame m ws k in
-    let g = kept-rows m ws k in
-    (f, g, λ d e i j bs counts closures steps bytes. faultless ws f g d e i j bs counts closures steps bytes)
+    let g = kept-right m ws k in
+    (g .frame, g .rows, λ d e i j bs counts closures steps bytes. faultless ws (g .frame) (g .rows) (kept-alike m ws k) d e i j bs counts closures steps bytes)

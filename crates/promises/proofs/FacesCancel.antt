@@ -27,7 +27,7 @@ module _ (m : Mesh) (ws : List ℕ) (k : Kept m ws) (counts closures : List ℤ)
     (z : closeNumber ws counts (length closures) (length steps) (length bytes) ≡ 0) (three : m .dims ≡ 3) where
   -- the cells are held
   cells-held : held ws (key 3 0) ≡ true
-  cells-held = kept-held m ws k (key 3 0) ∙ rw three at (k .closed .top)
+  cells-held = kept-held m ws k (key 3 0) ∙ rw three at (k .proper .top)
 
   cells : count ws 3 ≡ number m 3
   cells = first-count m ws k 3 0 (omega arith) cells-held

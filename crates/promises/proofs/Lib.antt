@@ -8,3 +8,4 @@ pub mod Listed
 pub mod FaceEdges
 pub mod StepsAgree
 pub mod FacesCancel
+pub mod DroppedBack

@@ -1,4 +1,4 @@
--- A list of asks is read as those asks, one after another; on a reached book no answer is 10 or 11, and each is planned.
+-- A list of asks is read as those asks, one after another; on a reached book no answer is 10, 11 or 25, and each is planned.
 use mathlib.Core.Path.{_≡_, refl, sym, ap, _∙_}
 use mathlib.Core.Bool.{Bool, true, false, cond}
 use mathlib.Core.List.{List, [], _∷_}
@@ -15,7 +15,7 @@ use Rattle.rules.proofs.Faultless.{fine, ask-fine}
 use Rattle.rules.proofs.Tests.{and-of}
 use Rattle.promises.specs.Demand.{ListedFine, ListPlanned, ReadAsAsks, AnsweredAsAsks}
 use Rattle.promises.specs.Plan.{askPlan, maskAfter, answersPlan}
-use Rattle.promises.proofs.Kept.{Kept, kept-mask, kept-frame, kept-rows, ask-kept, reached-kept}
+use Rattle.promises.proofs.Kept.{Kept, kept-mask, ask-kept, reached-kept, kept-right, kept-alike}
 use Rattle.promises.proofs.Planned.{ask-planned, mask-after, same-mask}
 
 asks-words : (s : State) (ps : List ℕ) → afterAll s (asksOf ps) ≡ record { words = wordsOf (s .words) ps; mesh = s .mesh }
@@ -48,13 +48,14 @@ pub answered-as-asks : AnsweredAsAsks
 unfolding listAnswers
 answered-as-asks ws ps ns h i l = rw h (answer-at ws ps i (omega (arith, list-accepted ps ns h)))
 
--- no answer is 10 or 11
+-- no answer is 10, 11 or 25
 answers-fine : (m : Mesh) (ps ws : List ℕ) → Kept m ws → allOf fine (answersOf ws ps) ≡ true
 unfolding answersOf allOf
 answers-fine m [] ws k = refl
 answers-fine m (d ∷ []) ws k = refl
 answers-fine m (d ∷ e ∷ ps) ws k =
-    and-of _ _ (ask-fine ws (kept-frame m ws k) (kept-rows m ws k) d e) (answers-fine m ps (askWords ws d e) (ask-kept m ws k d e))
+    let g = kept-right m ws k in
+    and-of _ _ (ask-fine ws (g .frame) (g .rows) (kept-alike m ws k) d e) (answers-fine m ps (askWords ws d e) (ask-kept m ws k d e))
 
 pub listed-fine : ListedFine
 listed-fine m ws r ps = answers-fine m ps ws (reached-kept m ws r)

@@ -1,99 +1,47 @@
 -- On a kept book each call's number is planned from the length, the mesh and the set held: the frame and the rows are right, and what would be written is the true book.
 use mathlib.Core.Path.{_≡_, refl, sym, ap, _∙_}
-use mathlib.Core.Bool.{Bool, true, false, cond, not, _&&_, _||_, true≢false}
+use mathlib.Core.Bool.{Bool, true, false, cond, not, _&&_, _||_}
 use mathlib.Core.List.{List, [], _∷_}
-use Prim.Native.Nat.{ℕ, zero, suc, _+_, _/_, _%_, _^_, _≤_, _<_}
+use Prim.Native.Nat.{ℕ, _+_, _^_, _≤_, _<_}
 use native.Mathlib.Omega.{arith}
 use lib.ListN.{length, getD, take}
 use lib.Dec.{eqb, ltb, leb}
 use lib.IntN.{ℤ}
 use borrow.Author.Tests.{ltb-false, leb-false, le-leb, eqb-true}
 use Rattle.rules.specs.Lists.{allOf, filled}
-use Rattle.rules.specs.File.{lengthOf}
-use Rattle.rules.specs.Book.{dim, count, key, named, held, offset, total, needs, frameRight, rowsRight}
-use Rattle.rules.specs.Calls.{rule, firstBroken, added, through, withKey, asked, makeRules, makeNumber, askRules, askNumber, askWords, rowRules, rowNumber, findNumber, writeLength, writeRules, writeNumber, eulerRules, eulerNumber, heldRules, heldNumber}
+use Rattle.rules.specs.Book.{count, key, named, held, offset, total, needs, frameRight, rowsRight}
+use Rattle.rules.specs.Calls.{rule, firstBroken, added, asked, makeRules, makeNumber, askRules, askNumber, askWords, rowRules, rowNumber, findNumber, writeRules, writeNumber, eulerRules, eulerNumber, heldRules, heldNumber, dropRules, dropNumber}
 use Rattle.rules.specs.Phases.{counted}
 use Rattle.rules.specs.Closures.{lengthsRight, closeRules, closeNumber}
 use Rattle.rules.specs.Truth.{Mesh, number, trueBook}
-use Rattle.rules.specs.Sequence.{Reached}
-use Rattle.rules.proofs.Tests.{all-weaker}
+use Rattle.rules.specs.Steps.{maskWith}
+use Rattle.rules.proofs.Tests.{and-off}
 use Rattle.rules.proofs.Masks.{masks-equal}
 use Rattle.rules.proofs.Bits.{write-length}
 use Rattle.rules.proofs.Accepted.{ask-is, rowed, find-is}
 use Rattle.rules.proofs.LoadedWords.{getD-filled}
 use Rattle.rules.proofs.FrameRule.{framed}
 use Rattle.rules.proofs.RowRule.{offset-rises, offset-total}
-use Rattle.rules.proofs.Needs.{key-div, key-again}
-use Rattle.rules.proofs.Asked.{withKey-held, withKey-new, asked-is}
+use Rattle.rules.proofs.Needs.{key-div}
+use Rattle.rules.proofs.Asked.{asked-is}
+use Rattle.rules.proofs.AskedMask.{key-mask}
 use Rattle.rules.proofs.TrueRows.{number-top}
-use Rattle.rules.proofs.Closed.{Closed}
-use Rattle.rules.proofs.TrueBook.{book-mask, book-dim, book-count, true-take, count-first}
+use Rattle.rules.proofs.TrueBook.{book-mask, book-dim, true-take, count-first}
 use Rattle.rules.proofs.TrueMake.{true-added}
 use Rattle.rules.proofs.TrueAsk.{true-asked}
-use Rattle.promises.specs.Plan.{wordsFor, maskThrough, maskWith, makePlan, askPlan, maskAfter, rowPlan, findPlan, writePlan, eulerPlan, closePlan}
+use Rattle.rules.proofs.TrueFound.{none-differs}
+use Rattle.promises.specs.Plan.{wordsFor, makePlan, askPlan, maskAfter, dropPlan, rowPlan, findPlan, writePlan, eulerPlan, closePlan}
 use Rattle.promises.specs.Demand.{Holds, Planned}
-use Rattle.promises.proofs.Kept.{Kept, kept-held, kept-dim, kept-mask, kept-frame, kept-rows, reached-kept}
+use Rattle.promises.proofs.Kept.{Kept, kept-held, kept-dim, kept-mask, kept-right, kept-alike, reached-kept}
 use Rattle.promises.proofs.DemandThree.{first-count, second-count}
-
--- ---- Ask's mask: word 1 goes along the needs as the words do
-dim-added : (ws : List ℕ) (d e : ℕ) → dim (added ws d e) ≡ dim ws
-unfolding dim added
-dim-added ws d e = refl
-
-mask-added : (ws : List ℕ) (d e : ℕ) → getD (added ws d e) 1 0 ≡ getD ws 1 0 + 2 ^ key d e
-unfolding added
-mask-added ws d e = refl
-
--- the words vs have the mesh dimension of ws, and the mask given
-record Masked (ws : List ℕ) (mask : ℕ) (vs : List ℕ) : Type 0 where
-  same : dim vs ≡ dim ws
-  mask-is : getD vs 1 0 ≡ mask
-
-through-mask : (n : ℕ) → ((ws : List ℕ) (k : ℕ) → Masked ws (maskWith n (dim ws) (getD ws 1 0) k) (withKey n ws k))
-    → (ks ws : List ℕ) → Masked ws (maskThrough (maskWith n (dim ws)) (getD ws 1 0) ks) (through (withKey n) ws ks)
-unfolding through maskThrough
-through-mask n ih [] ws = record { same = refl; mask-is = refl }
-through-mask n ih (k ∷ ks) ws =
-    let a = ih ws k in
-    let b = through-mask n ih ks (withKey n ws k) in
-    record {
-      same = b .same ∙ a .same;
-      mask-is = b .mask-is ∙ rw (a .same, a .mask-is);
-    }
-
--- a key that is held, and one that is missing once its needs are there
-held-masked : (n : ℕ) (ws : List ℕ) (k : ℕ) → held ws k ≡ true → Masked ws (maskWith (suc n) (dim ws) (getD ws 1 0) k) (withKey (suc n) ws k)
-unfolding maskWith held
-held-masked n ws k q = rw (withKey-held n ws k q) (record { same = refl; mask-is = rw q })
-
-new-masked : (n : ℕ) (ws : List ℕ) (k : ℕ) → held ws k ≡ false
-    → Masked ws (maskThrough (maskWith n (dim ws)) (getD ws 1 0) (needs (dim ws) (k / 4) (k % 4))) (through (withKey n) ws (needs (dim ws) (k / 4) (k % 4)))
-    → Masked ws (maskWith (suc n) (dim ws) (getD ws 1 0) k) (withKey (suc n) ws k)
-unfolding maskWith held
-new-masked n ws k q t =
-    rw (withKey-new n ws k q)
-    (record {
-      same = dim-added _ (k / 4) (k % 4) ∙ t .same;
-      mask-is = mask-added _ (k / 4) (k % 4) ∙ rw (t .mask-is, key-again k, q);
-    })
-
-key-mask : (n : ℕ) (ws : List ℕ) (k : ℕ) → Masked ws (maskWith n (dim ws) (getD ws 1 0) k) (withKey n ws k)
-key-mask zero ws k = unfold withKey maskWith in record { same = refl; mask-is = refl }
-key-mask (suc n) ws k = go (held ws k) refl (through-mask n (key-mask n) (needs (dim ws) (k / 4) (k % 4)) ws)
-  where
-    go : (b : Bool) → held ws k ≡ b
-        → Masked ws (maskThrough (maskWith n (dim ws)) (getD ws 1 0) (needs (dim ws) (k / 4) (k % 4))) (through (withKey n) ws (needs (dim ws) (k / 4) (k % 4)))
-        → Masked ws (maskWith (suc n) (dim ws) (getD ws 1 0) k) (withKey (suc n) ws k)
-    go true q t = held-masked n ws k q
-    go false q t = new-masked n ws k q t
 
 -- ---- a kept book
 module _ (m : Mesh) (ws : List ℕ) (k : Kept m ws) where
   frame : frameRight ws ≡ true
-  frame = kept-frame m ws k
+  frame = kept-right m ws k .frame
 
   rows : rowsRight ws ≡ true
-  rows = kept-rows m ws k
+  rows = kept-right m ws k .rows
 
   all-held : (ks : List ℕ) → allOf (held ws) ks ≡ allOf (named (k .mask)) ks
   unfolding allOf
@@ -106,12 +54,12 @@ module _ (m : Mesh) (ws : List ℕ) (k : Kept m ws) where
   unfolding wordsFor
   made-words d e a b o n =
       ap (λ (w : List ℕ). length (added w d e)) (k .words)
-      ∙ ap length (true-added m (k .formed) (k .mask) (k .closed) d e a b o (length ws) n)
+      ∙ ap length (true-added m (k .formed) (k .mask) (k .proper) d e a b o n (length ws))
 
-  make-planned : (d e : ℕ) → makeNumber ws d e ≡ makePlan (length ws) m (k .mask) d e
+  pub make-planned : (d e : ℕ) → makeNumber ws d e ≡ makePlan (length ws) m (k .mask) d e
   unfolding makeNumber makeRules makePlan firstBroken
   make-planned d e =
-      rw (frame, rows, kept-dim m ws k, kept-held m ws k (key d e), all-held (needs (m .dims) d e))
+      rw (frame, rows, kept-dim m ws k, kept-held m ws k (key d e), all-held (needs (m .dims) d e), kept-alike m ws k d, and-off (eqb e 0))
       (go (ltb (m .dims) d) refl (ltb (m .dims) e) refl (named (k .mask) (key d e)) refl (allOf (named (k .mask)) (needs (m .dims) d e)) refl)
     where
       go : (x : Bool) → ltb (m .dims) d ≡ x → (y : Bool) → ltb (m .dims) e ≡ y → (o : Bool) → named (k .mask) (key d e) ≡ o → (n : Bool) → allOf (named (k .mask)) (needs (m .dims) d e) ≡ n
@@ -131,19 +79,22 @@ module _ (m : Mesh) (ws : List ℕ) (k : Kept m ws) where
       ∙ key-mask 6 (take (getD ws 4 0) ws) (key d e) .mask-is
       ∙ rw (u, book-dim m (k .formed) (k .mask) 0, book-mask m (k .mask) 0)
 
-  asked-words : (d e : ℕ) → d ≤ m .dims → e ≤ m .dims → length (asked ws d e) ≡ wordsFor m (maskWith 6 (m .dims) (k .mask) (key d e))
-  unfolding wordsFor
-  asked-words d e a b =
-      let t = true-asked m (k .formed) (length ws) (k .mask) d e (k .closed) a b in
+  pub asked-book : (d e : ℕ) → d ≤ m .dims → e ≤ m .dims → asked ws d e ≡ trueBook 0 m (maskWith 6 (m .dims) (k .mask) (key d e))
+  asked-book d e a b =
+      let t = true-asked m (k .formed) (length ws) (k .mask) d e (k .proper) a b in
       let w : asked ws d e ≡ trueBook 0 m (t .mask) = ap (λ (w : List ℕ). asked w d e) (k .words) ∙ t .words in
       let q : t .mask ≡ maskWith 6 (m .dims) (k .mask) (key d e)
       = sym (book-mask m (t .mask) 0) ∙ ap (λ (v : List ℕ). getD v 1 0) (sym w) ∙ asked-mask d e in
-      ap length w ∙ rw q
+      w ∙ ap (trueBook 0 m) q
+
+  asked-words : (d e : ℕ) → d ≤ m .dims → e ≤ m .dims → length (asked ws d e) ≡ wordsFor m (maskWith 6 (m .dims) (k .mask) (key d e))
+  unfolding wordsFor
+  asked-words d e a b = ap length (asked-book d e a b)
 
   pub ask-planned : (d e : ℕ) → askNumber ws d e ≡ askPlan (length ws) m (k .mask) d e
   unfolding askNumber askRules askPlan firstBroken
   ask-planned d e =
-      rw (frame, rows, kept-dim m ws k) (go (ltb (m .dims) d) refl (ltb (m .dims) e) refl)
+      rw (frame, rows, kept-dim m ws k, none-differs ws (kept-alike m ws k) d e) (go (ltb (m .dims) d) refl (ltb (m .dims) e) refl)
     where
       go : (x : Bool) → ltb (m .dims) d ≡ x → (y : Bool) → ltb (m .dims) e ≡ y
           → _≡_ {A = ℕ} (cond (x || y) 12 (cond (ltb (length ws) (length (asked ws d e))) 13 0))
@@ -161,6 +112,11 @@ module _ (m : Mesh) (ws : List ℕ) (k : Kept m ws) where
       go true = getD-filled (length ws) (asked ws d e) 1 ∙ asked-mask d e
       go false = kept-mask m ws k
 
+  -- Drop
+  drop-planned : (d e : ℕ) → dropNumber ws d e ≡ dropPlan m (k .mask) d e
+  unfolding dropNumber dropRules dropPlan firstBroken
+  drop-planned d e = rw (frame, rows, kept-dim m ws k, kept-held m ws k (key d e))
+
   -- Row
   pub row-planned : (d e i : ℕ) → rowNumber ws d e i ≡ rowPlan m (k .mask) d e i
   unfolding rowNumber rowRules rowPlan firstBroken
@@ -168,7 +124,7 @@ module _ (m : Mesh) (ws : List ℕ) (k : Kept m ws) where
       rw (frame, kept-dim m ws k, kept-held m ws k (key d e)) (go (ltb (m .dims) d) refl (ltb (m .dims) e) refl (named (k .mask) (key d e)) refl)
     where
       counted : e ≤ m .dims → named (k .mask) (key d e) ≡ true → count ws d ≡ number m d
-      counted b h = ap (λ (w : List ℕ). count w d) (k .words) ∙ count-first m (k .formed) (k .mask) (k .closed) d e (omega (arith, k .formed .high)) h (length ws)
+      counted b h = ap (λ (w : List ℕ). count w d) (k .words) ∙ count-first m (k .formed) (k .mask) (k .proper) d e (omega (arith, k .formed .high)) h (length ws)
 
       -- its own two offsets never break the rule
       rise : e ≤ m .dims → named (k .mask) (key d e) ≡ true → i < count ws d
@@ -214,7 +170,7 @@ module _ (m : Mesh) (ws : List ℕ) (k : Kept m ws) where
   unfolding writeNumber writeRules writePlan firstBroken
   write-planned bs =
       let c : count ws (m .dims) ≡ length (m .cells)
-      = ap (λ (w : List ℕ). count w (m .dims)) (k .words) ∙ count-first m (k .formed) (k .mask) (k .closed) (m .dims) 0 (omega arith) (k .closed .top) (length ws) ∙ number-top m (k .formed .low) in
+      = ap (λ (w : List ℕ). count w (m .dims)) (k .words) ∙ count-first m (k .formed) (k .mask) (k .proper) (m .dims) 0 (omega arith) (k .proper .top) (length ws) ∙ number-top m (k .formed .low) in
       rw (frame, rows, write-length ws, kept-dim m ws k, c)
 
   euler-planned : eulerNumber ws ≡ eulerPlan m (k .mask)
@@ -248,10 +204,10 @@ module _ (m : Mesh) (ws : List ℕ) (k : Kept m ws) where
       go false p y q = refl
 
   pub same-mask : (mask : ℕ) → Holds ws mask → mask ≡ k .mask
-  same-mask mask h = masks-equal 16 mask (k .mask) (h .small) (k .closed .small) (λ j l. h .names j l ∙ kept-held m ws k j)
+  same-mask mask h = masks-equal 16 mask (k .mask) (h .small) (k .proper .small) (λ j l. h .names j l ∙ kept-held m ws k j)
 
 pub planned : Planned
 planned m ws r mask h d e i j bs counts closures steps bytes =
     let k = reached-kept m ws r in
     rw (same-mask m ws k mask h)
-    (make-planned m ws k d e, ask-planned m ws k d e, row-planned m ws k d e i, find-planned m ws k d e i j, write-planned m ws k bs, euler-planned m ws k, held-planned m ws k, close-planned m ws k counts closures steps bytes)
+    (make-planned m ws k d e, ask-planned m ws k d e, drop-planned m ws k d e, row-planned m ws k d e i, find-planned m ws k d e i j, write-planned m ws k bs, euler-planned m ws k, held-planned m ws k, close-planned m ws k counts closures steps bytes)

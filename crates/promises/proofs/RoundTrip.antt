@@ -1,5 +1,5 @@
 -- The round trip: what Write gives has the mesh that was loaded, and is accepted again.
-use mathlib.Core.Path.{_≡_, refl, sym, ap, _∙_}
+use mathlib.Core.Path.{_≡_, sym, ap, _∙_}
 use mathlib.Core.List.{List}
 use Prim.Native.Nat.{ℕ, _^_, _≤_}
 use native.Mathlib.Omega.{arith}
@@ -7,7 +7,7 @@ use lib.ListN.{length}
 use borrow.Author.Tests.{le-ltb}
 use Rattle.rules.specs.File.{lengthOf, fileDim, fileCells}
 use Rattle.rules.specs.Book.{key}
-use Rattle.rules.specs.Calls.{firstBroken, loaded, loadNumber, loadWords, written, writeNumber}
+use Rattle.rules.specs.Calls.{firstBroken, loaded, loadNumber, loadWords, written}
 use Rattle.rules.specs.Truth.{Mesh, meshOf, trueBook}
 use Rattle.promises.specs.Plan.{writePlan}
 use Rattle.promises.specs.Demand.{FileBack, MeshBack, WordsBack, RoomToWrite}
@@ -19,7 +19,7 @@ use Rattle.promises.proofs.Planned.{write-planned}
 
 -- a kept book writes the file of its mesh
 kept-written : (m : Mesh) (ws : List ℕ) → Kept m ws → written ws ≡ fileOf m
-kept-written m ws k = ap written (k .words) ∙ book-written m (k .formed) (k .mask) (k .closed) (length ws)
+kept-written m ws k = ap written (k .words) ∙ book-written m (k .formed) (k .mask) (k .proper) (length ws)
 
 pub file-back : FileBack
 file-back f ws h =
@@ -33,12 +33,12 @@ mesh-again m ws r =
     let k = reached-kept m ws r in
     let s = k .formed in
     rw (kept-written m ws k)
-    (cells-back m s, mesh-back m s, λ vs l. accepts (fileOf m) vs (file-loads m s vs (omega (arith, book-room m s (k .mask) (k .closed) (length ws), kept-fits m ws k))))
+    (cells-back m s, mesh-back m s, λ vs l. accepts (fileOf m) vs (file-loads m s vs (omega (arith, book-room m s (k .mask) (k .proper) (length ws), kept-fits m ws k))))
 
 -- the file that a kept book writes is accepted by every book that is as long
 kept-accepted : (m : Mesh) (ws vs : List ℕ) (k : Kept m ws) → length ws ≤ length vs → loadNumber (fileOf m) vs ≡ 0
 kept-accepted m ws vs k l =
-    accepts (fileOf m) vs (file-loads m (k .formed) vs (omega (arith, book-room m (k .formed) (k .mask) (k .closed) (length ws), kept-fits m ws k)))
+    accepts (fileOf m) vs (file-loads m (k .formed) vs (omega (arith, book-room m (k .formed) (k .mask) (k .proper) (length ws), kept-fits m ws k)))
 
 -- the words of an accepted load, from its mesh
 load-words : (f ws : List ℕ) (h : loadNumber f ws ≡ 0) → loadWords f ws ≡ trueBook (length ws) (meshOf f) (2 ^ key (meshOf f .dims) 0)

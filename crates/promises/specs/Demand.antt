@@ -1,19 +1,19 @@
 -- Demand 3, part by part, and the round trip: what is promised of a book after any sequence of calls, and of any right book.
 use mathlib.Core.Path.{_≡_}
-use mathlib.Core.Bool.{true, cond, not, _||_}
+use mathlib.Core.Bool.{true, false, cond, not, _||_}
 use mathlib.Core.List.{List, [], _∷_, map}
-use Prim.Native.Nat.{ℕ, _+_, _*_, _/_, _%_, _^_, _≤_, _<_}
+use Prim.Native.Nat.{ℕ, _+_, _-_, _*_, _/_, _%_, _^_, _≤_, _<_}
 use lib.ListN.{length, getD, take}
 use lib.Dec.{eqb}
 use lib.IntN.{ℤ}
 use Rattle.rules.specs.Lists.{anyOf, allOf, has, inside, sorted}
 use Rattle.rules.specs.File.{fileDim, fileVertices, cellsInFile}
-use Rattle.rules.specs.Book.{key, named, held, count, rowOf, rowsOf, frameRight, rowsRight}
-use Rattle.rules.specs.Calls.{loadNumber, loadWords, makeNumber, makeWords, askNumber, askWords, answersOf, wordsOf, listNumber, listAnswers, listWords, rowNumber, rowPart, findNumber, findFound, written, writeNumber, eulerNumber, heldNumber}
+use Rattle.rules.specs.Book.{key, named, held, count, rowOf, rowsOf, frameRight, rowsRight, needs}
+use Rattle.rules.specs.Calls.{loadNumber, loadWords, makeNumber, makeWords, askNumber, askWords, answersOf, wordsOf, listNumber, listAnswers, listWords, rowNumber, rowPart, findNumber, findFound, written, writeNumber, eulerNumber, heldNumber, dropNumber, dropWords}
 use Rattle.rules.specs.Closures.{closeNumber}
 use Rattle.rules.specs.Truth.{Mesh, meshOf, number, incident, trueRows, trueBook}
 use Rattle.rules.specs.Sequence.{State, askList, after, afterAll, asksOf, Reached}
-use Rattle.promises.specs.Plan.{makePlan, askPlan, answersPlan, rowPlan, findPlan, writePlan, eulerPlan, closePlan}
+use Rattle.promises.specs.Plan.{wordsFor, makePlan, askPlan, answersPlan, rowPlan, findPlan, writePlan, eulerPlan, closePlan, dropPlan}
 
 -- ==== demand 3, part by part
 -- every relation held is the true incidence of the last accepted mesh
@@ -56,14 +56,14 @@ Determined = (m : Mesh) (ws : List ℕ) → Reached m ws → ws ≡ trueBook (le
 abbrev pub Alike : Type 0
 Alike = (m : Mesh) (ws vs : List ℕ) → Reached m ws → Reached m vs → length ws ≡ length vs → ((k : ℕ) → k < 16 → held ws k ≡ held vs k) → ws ≡ vs
 
--- the frame rule and the row rule hold, and no call gives 10 or 11
+-- the frame rule and the row rule hold, and no call gives 10, 11 or 25
 abbrev pub NothingElse : Type 0
 NothingElse = (m : Mesh) (ws : List ℕ) → Reached m ws → (frameRight ws ≡ true) × (rowsRight ws ≡ true) × ((d e i j : ℕ) (bs : List ℕ) (counts : List ℤ) (closures steps bytes : ℕ)
-    → allOf (λ n. not (eqb n 10 || eqb n 11)) (makeNumber ws d e ∷ askNumber ws d e ∷ rowNumber ws d e i ∷ findNumber ws d e i j ∷ writeNumber ws bs ∷ eulerNumber ws ∷ heldNumber ws ∷ closeNumber ws counts closures steps bytes ∷ []) ≡ true)
+    → allOf (λ n. not (eqb n 10 || eqb n 11 || eqb n 25)) (makeNumber ws d e ∷ askNumber ws d e ∷ dropNumber ws d e ∷ rowNumber ws d e i ∷ findNumber ws d e i j ∷ writeNumber ws bs ∷ eulerNumber ws ∷ heldNumber ws ∷ closeNumber ws counts closures steps bytes ∷ []) ≡ true)
 
 -- nor does any answer of a list of asks
 abbrev pub ListedFine : Type 0
-ListedFine = (m : Mesh) (ws : List ℕ) → Reached m ws → (ps : List ℕ) → allOf (λ n. not (eqb n 10 || eqb n 11)) (answersOf ws ps) ≡ true
+ListedFine = (m : Mesh) (ws : List ℕ) → Reached m ws → (ps : List ℕ) → allOf (λ n. not (eqb n 10 || eqb n 11 || eqb n 25)) (answersOf ws ps) ≡ true
 
 -- the mask is the set of relations that the book holds
 pub record Holds (ws : List ℕ) (mask : ℕ) : Type 0 where
@@ -75,6 +75,7 @@ abbrev pub Planned : Type 0
 Planned = (m : Mesh) (ws : List ℕ) → Reached m ws → (mask : ℕ) → Holds ws mask → (d e i j : ℕ) (bs : List ℕ) (counts : List ℤ) (closures steps bytes : ℕ)
     → (makeNumber ws d e ≡ makePlan (length ws) m mask d e)
     × (askNumber ws d e ≡ askPlan (length ws) m mask d e)
+    × (dropNumber ws d e ≡ dropPlan m mask d e)
     × (rowNumber ws d e i ≡ rowPlan m mask d e i)
     × (findNumber ws d e i j ≡ findPlan m mask d e i j)
     × (writeNumber ws bs ≡ writePlan (length bs) m)
@@ -97,8 +98,22 @@ abbrev pub AnsweredAsAsks : Type 0
 AnsweredAsAsks = (ws ps ns : List ℕ) → listNumber ps ns ≡ 0 → (i : ℕ) → i < length ns
     → getD (listAnswers ws ps ns) i 0 ≡ askNumber (wordsOf ws (take (2 * i) ps)) (getD ps (2 * i) 0) (getD ps (2 * i + 1) 0)
 
+-- a relation dropped while all that it is made from is held: Make and Ask give the same words back
+abbrev pub DroppedBack : Type 0
+DroppedBack = (m : Mesh) (ws : List ℕ) → Reached m ws → (d e : ℕ) → dropNumber ws d e ≡ 0 → allOf (held ws) (needs (m .dims) d e) ≡ true
+    → (makeNumber (dropWords ws d e) d e ≡ 0) × (makeWords (dropWords ws d e) d e ≡ ws)
+    × (askNumber (dropWords ws d e) d e ≡ 0)
+    × (askWords (dropWords ws d e) d e ≡ ws)
+
+-- the words of a relation that was dropped are free to the last one: the book is the true one of the smaller set, as long as planned, and zeros follow
+abbrev pub Freed : Type 0
+Freed = (m : Mesh) (ws : List ℕ) → Reached m ws → (mask : ℕ) → Holds ws mask → (d e : ℕ) → dropNumber ws d e ≡ 0
+    → (dropWords ws d e ≡ trueBook (length ws) m (mask - 2 ^ key d e))
+    × (getD (dropWords ws d e) 4 0 ≡ wordsFor m (mask - 2 ^ key d e))
+    × ((i : ℕ) → wordsFor m (mask - 2 ^ key d e) ≤ i → getD (dropWords ws d e) i 0 ≡ 0)
+
 -- ==== books that somebody else wrote
--- on any book whose frame and rows are right, Make, Ask and a list of asks leave a book whose frame and rows are right
+-- on any book whose frame and rows are right, Make, Ask, a list of asks and Drop leave a book whose frame and rows are right
 abbrev pub StaysRight : Type 0
 StaysRight = (ws : List ℕ) → frameRight ws ≡ true → rowsRight ws ≡ true → (d e : ℕ) (ps ns : List ℕ)
     → (frameRight (makeWords ws d e) ≡ true) × (rowsRight (makeWords ws d e) ≡ true)
@@ -106,6 +121,19 @@ StaysRight = (ws : List ℕ) → frameRight ws ≡ true → rowsRight ws ≡ tru
     × (rowsRight (askWords ws d e) ≡ true)
     × (frameRight (listWords ws ps ns) ≡ true)
     × (rowsRight (listWords ws ps ns) ≡ true)
+    × (frameRight (dropWords ws d e) ≡ true)
+    × (rowsRight (dropWords ws d e) ≡ true)
+
+-- an accepted Drop takes that relation out alone: every other is held as before, with the same rows
+abbrev pub OneLess : Type 0
+OneLess = (ws : List ℕ) → frameRight ws ≡ true → rowsRight ws ≡ true → (d e : ℕ) → dropNumber ws d e ≡ 0
+    → (held (dropWords ws d e) (key d e) ≡ false)
+    × ((k : ℕ) → (k ≡ key d e → ⊥) → (held (dropWords ws d e) k ≡ held ws k) × (held ws k ≡ true → rowsOf (dropWords ws d e) k ≡ rowsOf ws k))
+
+-- and what was made can be dropped again: the same words
+abbrev pub MadeThenDropped : Type 0
+MadeThenDropped = (ws : List ℕ) → frameRight ws ≡ true → rowsRight ws ≡ true → (d e : ℕ) → makeNumber ws d e ≡ 0
+    → (dropNumber (makeWords ws d e) d e ≡ 0) × (dropWords (makeWords ws d e) d e ≡ ws)
 
 -- ==== the round trip
 -- from an accepted file: the file that Write gives has the same D and N_0, and the same cells in their order, each ascending

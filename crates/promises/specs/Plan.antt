@@ -1,13 +1,14 @@
 -- What a caller can plan by: each call's number, from the book's length, the mesh and the set of relations held alone. No word of a book is in it.
 use mathlib.Core.Bool.{cond, not, _&&_, _||_}
 use mathlib.Core.List.{List, [], _∷_}
-use Prim.Native.Nat.{ℕ, zero, suc, _+_, _/_, _%_, _^_}
+use Prim.Native.Nat.{ℕ, _+_, _^_}
 use lib.ListN.{length}
 use lib.Dec.{eqb, ltb, leb}
 use lib.IntN.{ℤ}
 use Rattle.rules.specs.Lists.{allOf}
 use Rattle.rules.specs.File.{lengthOf}
 use Rattle.rules.specs.Book.{key, named, needs}
+use Rattle.rules.specs.Steps.{maskWith}
 use Rattle.rules.specs.Calls.{rule, firstBroken}
 use Rattle.rules.specs.Phases.{counted}
 use Rattle.rules.specs.Truth.{Mesh, number, trueBook}
@@ -15,16 +16,6 @@ use Rattle.rules.specs.Truth.{Mesh, number, trueBook}
 -- how many words the true relations that the mask names take, with the head
 unfoldable pub wordsFor : Mesh → ℕ → ℕ
 wordsFor m mask = length (trueBook 0 m mask)
-
--- the masks after f for each key in turn
-unfoldable pub maskThrough : (ℕ → ℕ → ℕ) → ℕ → List ℕ → ℕ
-maskThrough f mask [] = mask
-maskThrough f mask (k ∷ ks) = maskThrough f (f mask k) ks
-
--- the mask with key k: as it is where k is named, else with all that it is made from, and then with it; n bounds the depth
-unfoldable pub maskWith : ℕ → ℕ → ℕ → ℕ → ℕ
-maskWith zero D mask k = mask
-maskWith (suc n) D mask k = cond (named mask k) mask (maskThrough (maskWith n D) mask (needs D (k / 4) (k % 4)) + 2 ^ k)
 
 -- Make in a book of n words: 12 if d or e is over D, else 14 if held, else 15 if a need is missing, else 13 if the true book with it is longer than the book, else 0
 unfoldable pub makePlan : ℕ → Mesh → ℕ → ℕ → ℕ → ℕ
@@ -51,6 +42,11 @@ unfoldable pub answersPlan : ℕ → Mesh → ℕ → List ℕ → List ℕ
 answersPlan n m mask [] = []
 answersPlan n m mask (d ∷ []) = []
 answersPlan n m mask (d ∷ e ∷ ps) = askPlan n m mask d e ∷ answersPlan n m (maskAfter n m mask d e) ps
+
+-- Drop: 12 if d or e is over D, else 16 if d→e is not held, else 24 if it is D→0, else 0
+unfoldable pub dropPlan : Mesh → ℕ → ℕ → ℕ → ℕ
+dropPlan m mask d e =
+    firstBroken (rule (ltb (m .dims) d || ltb (m .dims) e) 12 ∷ rule (not (named mask (key d e))) 16 ∷ rule (eqb d (m .dims) && eqb e 0) 24 ∷ []) 0
 
 -- Row: 12 if d or e is over D, else 16 if d→e is not held, else 17 if there is no entity (d, i), else 0
 unfoldable pub rowPlan : Mesh → ℕ → ℕ → ℕ → ℕ → ℕ

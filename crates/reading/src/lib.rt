@@ -1,4 +1,4 @@
-// Calls that leave the book as it is: Row, Find, Write, the Euler number and the held count. `daybook` has them beside Load, Make, Ask, the list of asks and phase closures.
+// Calls that leave the book as it is: Row, Find, Write, the Euler number and the held count. `daybook` has them beside Load, Make, Ask, the list of asks, Drop and phase closures.
 mod answers;
 mod finds;
 mod numbers;

@@ -1,6 +1,6 @@
 -- What an accepted call has passed: where the number is 0, no rule of its list is broken.
 use mathlib.Core.Path.{_≡_, refl, sym, ap, _∙_}
-use mathlib.Core.Bool.{Bool, true, false, cond, not, _&&_, _||_}
+use mathlib.Core.Bool.{Bool, true, false, cond, not, _&&_, _||_, true≢false}
 use mathlib.Core.List.{List, [], _∷_, _++_, map}
 use Prim.Native.Nat.{ℕ, _*_, _/_, _%_, _≤_, _<_}
 use native.Mathlib.Omega.{arith}
@@ -8,13 +8,14 @@ use lib.ListN.{length, length-append, length-replicate}
 use lib.Dec.{eqb, ltb, leb}
 use lib.IntN.{ℤ}
 use borrow.Author.Tests.{not-true, not-false, ltb-true, ltb-false, leb-false, eqb-true, eqb-false, eq-eqb, ne-eqb, le-ltb}
-use Rattle.rules.specs.Lists.{anyOf, allOf, repeats, sorted, filled}
+use Rattle.rules.specs.Lists.{upTo, anyOf, allOf, repeats, sorted, filled}
 use Rattle.rules.specs.File.{fileDim, fileVertices, fileCells, fileSpare, lengthOf, cellsInFile, outOf, twice, padSet}
 use Rattle.rules.specs.Book.{dim, count, key, held, needs, rowOf, frameRight, rowsRight}
-use Rattle.rules.specs.Calls.{Rule, firstBroken, loaded, fileRules, loadRules, loadNumber, loadWords, added, makeRules, makeNumber, makeWords, asked, askRules, askNumber, askWords, wordsOf, pairsOff, listRules, listNumber, listWords, rowRules, rowNumber, rowPart, foundIn, readIn, findRules, findNumber, findFound, findRead}
+use Rattle.rules.specs.Calls.{Rule, firstBroken, loaded, fileRules, loadRules, loadNumber, loadWords, added, makeRules, makeNumber, makeWords, asked, askRules, askNumber, askWords, wordsOf, pairsOff, listRules, listNumber, listWords, rowRules, rowNumber, rowPart, foundIn, readIn, findRules, findNumber, findFound, findRead, differs, hasToMake, dropped, dropRules, dropNumber, dropWords}
 use Rattle.rules.specs.Phases.{counted}
 use Rattle.rules.specs.Closures.{lengthsRight, closeRules, closeNumber}
-use Rattle.rules.proofs.Tests.{left, right, neither}
+use Rattle.rules.proofs.Tests.{left, right, neither, none-of}
+use Rattle.rules.proofs.Keep.{upTo-of}
 
 -- where the answer is 0 and no rule's answer is, no rule was broken
 pub unbroken : (rs : List (Rule ℕ)) → allOf (λ r. ltb 0 (r .answer)) rs ≡ true → firstBroken rs 0 ≡ 0 → allOf (λ r. not (r .broken)) rs ≡ true
@@ -105,6 +106,7 @@ pub record Makes (ws : List ℕ) (d e : ℕ) : Type 0 where
   pub second : e ≤ dim ws
   pub new : held ws (key d e) ≡ false
   pub needed : allOf (held ws) (needs (dim ws) d e) ≡ true
+  pub alike : e ≡ 0 → differs ws d ≡ false
   pub fits : length (added ws d e) ≤ length ws
 
 make-rules : (ws : List ℕ) (d e : ℕ) → makeNumber ws d e ≡ 0 → allOf (λ r. not (r .broken)) (makeRules ws d e) ≡ true
@@ -123,6 +125,7 @@ makes ws d e h =
       second = ltb-false (dim ws) e (o .1);
       new = search (left, right, not-true) depth 9;
       needed = not-false _ (not-true _ q);
+      alike = λ z. let b : not (eqb e 0 && differs ws d) ≡ true = search (left, right) depth 9 in rw (eq-eqb e 0 z) at (not-true (eqb e 0 && differs ws d) b);
       fits = search (left, right, not-true, ltb-false) depth 9;
     }
 
@@ -134,21 +137,28 @@ make-is ws d e = refl
 pub record Asks (ws : List ℕ) (d e : ℕ) : Type 0 where
   pub first : d ≤ dim ws
   pub second : e ≤ dim ws
+  pub alike : (x : ℕ) → x < 3 → held ws (key x 0) ≡ false → held (asked ws d e) (key x 0) ≡ true → differs ws x ≡ false
   pub fits : length (asked ws d e) ≤ length ws
 
 ask-rules : (ws : List ℕ) (d e : ℕ) → askNumber ws d e ≡ 0 → allOf (λ r. not (r .broken)) (askRules ws d e) ≡ true
 unfolding askNumber
 ask-rules ws d e h = unbroken (askRules ws d e) (unfold allOf askRules in refl) h
 
+pub to-make : (ws : List ℕ) (d e x : ℕ) → held ws (key x 0) ≡ false → held (asked ws d e) (key x 0) ≡ true → hasToMake ws d e x ≡ true
+unfolding hasToMake
+to-make ws d e x f t = rw (f, t)
+
 pub asks : (ws : List ℕ) (d e : ℕ) → askNumber ws d e ≡ 0 → Asks ws d e
 unfolding askRules allOf
 asks ws d e h =
     let r = ask-rules ws d e h in
-    let n : not (ltb (dim ws) d || ltb (dim ws) e) ≡ true = search (left, right) in
+    let n : not (ltb (dim ws) d || ltb (dim ws) e) ≡ true = search (left, right) depth 9 in
     let o = neither (ltb (dim ws) d) (ltb (dim ws) e) n in
+    let b : not (anyOf (λ x. hasToMake ws d e x && differs ws x) (upTo 3)) ≡ true = search (left, right) depth 9 in
     record {
       first = ltb-false (dim ws) d (o .0);
       second = ltb-false (dim ws) e (o .1);
+      alike = λ x l f t. rw (to-make ws d e x f t) at (none-of (λ y. hasToMake ws d e y && differs ws y) (not-true (anyOf (λ y. hasToMake ws d e y && differs ws y) (upTo 3)) b) (upTo-of x 3 l));
       fits = search (left, right, not-true, ltb-false) depth 9;
     }
 
@@ -199,6 +209,39 @@ module _ (P : List ℕ → Type 0) (keeps : (ws : List ℕ) (d e : ℕ) → P ws
       go : (b : Bool) → P (cond b (wordsOf ws ps) ws)
       go true = words-keep ps ws h
       go false = h
+
+-- ---- Drop
+pub record Drops (ws : List ℕ) (d e : ℕ) : Type 0 where
+  pub first : d ≤ dim ws
+  pub second : e ≤ dim ws
+  pub there : held ws (key d e) ≡ true
+  pub inner : d ≡ dim ws → e ≡ 0 → ⊥
+
+drop-rules : (ws : List ℕ) (d e : ℕ) → dropNumber ws d e ≡ 0 → allOf (λ r. not (r .broken)) (dropRules ws d e) ≡ true
+unfolding dropNumber
+drop-rules ws d e h = unbroken (dropRules ws d e) (unfold allOf dropRules in refl) h
+
+pub drops : (ws : List ℕ) (d e : ℕ) → dropNumber ws d e ≡ 0 → Drops ws d e
+unfolding dropRules allOf
+drops ws d e h =
+    let r = drop-rules ws d e h in
+    let n : not (ltb (dim ws) d || ltb (dim ws) e) ≡ true = search (left, right) depth 9 in
+    let o = neither (ltb (dim ws) d) (ltb (dim ws) e) n in
+    let q : not (not (held ws (key d e))) ≡ true = search (left, right) depth 9 in
+    let b : not (eqb d (dim ws) && eqb e 0) ≡ true = search (left, right) depth 9 in
+    record {
+      first = ltb-false (dim ws) d (o .0);
+      second = ltb-false (dim ws) e (o .1);
+      there = not-false _ (not-true _ q);
+      inner = λ x y. true≢false (rw (eq-eqb d (dim ws) x, eq-eqb e 0 y) at (not-true (eqb d (dim ws) && eqb e 0) b));
+    }
+
+pub drop-is : (ws : List ℕ) (d e : ℕ) → dropWords ws d e ≡ cond (eqb (dropNumber ws d e) 0) (filled (length ws) (dropped ws d e)) ws
+unfolding dropWords
+drop-is ws d e = refl
+
+pub drop-accepted : (ws : List ℕ) (d e : ℕ) → dropNumber ws d e ≡ 0 → dropWords ws d e ≡ filled (length ws) (dropped ws d e)
+drop-accepted ws d e h = drop-is ws d e ∙ rw h
 
 -- ---- Row
 pub record Rowed (ws : List ℕ) (d e i : ℕ) : Type 0 where

@@ -13,6 +13,14 @@ use lib.Dec.{eqb, ltb}
 use Rattle.rules.specs.Book.{dim, count, key, named, held, place, offset, total, rowOf, needs, most}
 use Rattle.rules.proofs.FrameRule.{count-top, place-skipped, place-held}
 
+-- a word names no key from 32 on
+pub named-none : (mask k : ℕ) → mask < 2 ^ 32 → 32 ≤ k → named mask k ≡ false
+unfolding named
+named-none mask k m l =
+    let p : 2 ^ 32 ≤ 2 ^ k = pow-le-pow-right {n = 2} (omega arith) {i = 32} {j = k} l in
+    let z : mask / 2 ^ k ≡ 0 = div-eq-of-lt (omega arith) in
+    rw z
+
 -- the place behind a relation, as code goes from one to the next
 module _ (ws : List ℕ) (k at : ℕ) (stands : at ≡ place ws k) where
   pub place-behind : (n x : ℕ) → held ws k ≡ true → n ≡ count ws (k / 4) → x ≡ getD ws (at + n) 0 → at + n + 1 + x ≡ place ws (k + 1)
@@ -39,12 +47,9 @@ module _ (ws : List ℕ) (words : (i : ℕ) → getD ws i 0 < 2 ^ 32) where
   unfolding dim
   dim-most = omega (arith, words 0)
 
-  pub held-none : (k : ℕ) → 32 ≤ k → held ws k ≡ false
-  unfolding held named
-  held-none k l =
-      let p : 2 ^ 32 ≤ 2 ^ k = pow-le-pow-right {n = 2} (omega arith) {i = 32} {j = k} l in
-      let z : getD ws 1 0 / 2 ^ k ≡ 0 = div-eq-of-lt (omega (arith, words 1)) in
-      rw z
+  held-none : (k : ℕ) → 32 ≤ k → held ws k ≡ false
+  unfolding held
+  held-none k l = named-none (getD ws 1 0) k (words 1) l
 
   pub count-below : (d : ℕ) → count ws d < 2 ^ 32
   unfolding count

@@ -1,28 +1,26 @@
 -- What is made depends only on the counts and on the rows of what it is made from; so the free words of a right book have no say in it.
 use mathlib.Core.Path.{_≡_, refl, sym, ap, _∙_}
-use mathlib.Core.Bool.{Bool, true, false, not, _&&_}
-use mathlib.Core.List.{List, [], _∷_, map, List·Memᴰ as In, List·Memᴰ·head as here, List·Memᴰ·tail as there}
-use Prim.Native.Nat.{ℕ, suc, _+_, _-_, _/_, _%_, _^_, _≤_, _<_}
+use mathlib.Core.Bool.{true}
+use mathlib.Core.List.{List, [], List·Memᴰ as In, List·Memᴰ·head as here, List·Memᴰ·tail as there}
+use Prim.Native.Nat.{ℕ, _+_, _-_, _/_, _%_, _≤_, _<_}
 use native.Mathlib.Omega.{arith}
-use lib.ListN.{length, getD, take, drop, length-take}
-use lib.Seq.{getD-take, take-take, length-take-le}
-use lib.Dec.{eqb, ltb}
+use lib.ListN.{getD, take, drop}
+use lib.Seq.{getD-take, take-take}
+use lib.Dec.{ltb}
 use borrow.Author.Tests.{ltb-true}
-use Rattle.rules.specs.Lists.{upTo, anyOf, allOf, has, inside, rowsBy}
-use Rattle.rules.specs.Book.{dim, count, key, held, place, rowOf, rowsOf, relation, needs, frameRight, rowsRight}
+use Rattle.rules.specs.Lists.{allOf, has}
+use Rattle.rules.specs.Book.{dim, count, key, held, place, rowOf, rowsOf, relation, needs, Right}
 use Rattle.rules.specs.Made.{built, turned, listedAt, intersected, neighbours, vertexNeighbours, madeFrom, made}
 use Rattle.rules.specs.Calls.{countAfter, added}
 use Rattle.rules.proofs.Tests.{all-at}
 use Rattle.rules.proofs.Slices.{part-front}
-use Rattle.rules.proofs.Keep.{upTo-is}
 use Rattle.rules.proofs.Numbered.{rows-agree, rowsBy-agree, any-agree, getD-rows}
 use Rattle.rules.proofs.Needs.{Kind, set, up, down, level, points, kind, key-div, key-mod, needs-build, needs-up, needs-down, needs-across, needs-vertices}
 use Rattle.rules.proofs.FrameRule.{Framed, framed, held-below, place-rises}
 use Rattle.rules.proofs.RowRule.{row-all}
 use Rattle.rules.proofs.FiveRules.{made-set, made-up, made-down, made-level, made-points, made-is}
-use Rattle.rules.proofs.Assembled.{assembled, assembled-place, assembled-rows}
-use Rattle.rules.proofs.Sound.{Sound}
-use Rattle.rules.proofs.RightAsk.{Right, parts, whole, used-part, bare, bare-dim}
+use Rattle.rules.proofs.Assembled.{assembled-place, assembled-rows}
+use Rattle.rules.proofs.RightUsed.{parts, whole, used-part, bare-dim}
 
 -- two relations of n rows agree
 abbrev Same : ℕ → (ℕ → List ℕ) → (ℕ → List ℕ) → Type 0

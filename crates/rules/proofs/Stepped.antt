@@ -2,7 +2,7 @@
 use mathlib.Core.Path.{_≡_, refl, sym, ap, _∙_}
 use mathlib.Core.Bool.{Bool, true, false, cond, _&&_, true≢false}
 use mathlib.Core.List.{List, [], _∷_}
-use Prim.Native.Nat.{ℕ, zero, suc, _+_, _-_, _/_, _%_, _≤_, _<_}
+use Prim.Native.Nat.{ℕ, zero, suc, _-_, _/_, _%_, _≤_, _<_}
 use native.Mathlib.Omega.{arith}
 use borrow.Author.Tests.{leb-true}
 use Rattle.rules.specs.Lists.{allOf}
@@ -11,12 +11,8 @@ use Rattle.rules.specs.Calls.{added, through, withKey}
 use Rattle.rules.specs.Steps.{firstOff, onward, nextKey}
 use Rattle.rules.proofs.Tests.{left, right}
 use Rattle.rules.proofs.Needs.{key-again}
-use Rattle.rules.proofs.Added.{held-added, other-added, keeps-added}
+use Rattle.rules.proofs.Added.{held-added, other-added, keeps-added, dim-added}
 use Rattle.rules.proofs.Asked.{rank, within, rank-pos, rank-needs, withKey-held, withKey-new}
-
-pub dim-added : (ws : List ℕ) (d e : ℕ) → dim (added ws d e) ≡ dim ws
-unfolding dim added
-dim-added ws d e = refl
 
 -- a key that is held changes no word, at any depth
 any-held : (n : ℕ) (ws : List ℕ) (k : ℕ) → held ws k ≡ true → withKey n ws k ≡ ws

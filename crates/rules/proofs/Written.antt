@@ -24,7 +24,7 @@ use Rattle.rules.proofs.Bits.{Bits, length-packed, packed-bit, length-b
 use Rattle.rules.proofs.Fields.{field-below, first-word}
 use Rattle.rules.proofs.Accepted.{Loads}
 use Rattle.rules.proofs.TrueRows.{Formed, number-top, entities-top, vertex-rows}
-use Rattle.rules.proofs.Closed.{Closed}
+use Rattle.rules.proofs.Proper.{Proper}
 use Rattle.rules.proofs.TrueBook.{trueHead, trueUsed, own-rows, book-word, book-dim, book-rows, count-first}
 
 -- the bits of a mesh's file, and its bytes
@@ -200,7 +200,7 @@ module _ (m : Mesh) (s : Formed m) where
   }
 
   -- ---- the true book writes it
-  module _ (mask : ℕ) (c : Closed (m .dims) mask) (n : ℕ) where
+  module _ (mask : ℕ) (c : Proper (m .dims) mask) (n : ℕ) where
     pub book-written : written (trueBook n m mask) ≡ fileOf m
     unfolding written fileBytes fileOf fileBits
     book-written =

@@ -5,9 +5,9 @@ use Prim.Native.Nat.{ℕ, zero, suc, _+_, _-_, _/_, _%_, _^_}
 use lib.ListN.{length, getD, take, drop}
 use lib.Dec.{eqb, ltb, leb}
 use lib.IntN.{ℤ, subℕ}
-use Rattle.rules.specs.Lists.{anyOf, allOf, has, repeats, firstRepeated, joined, sorted, firstAt, filled}
+use Rattle.rules.specs.Lists.{upTo, anyOf, allOf, has, repeats, firstRepeated, joined, sorted, firstAt, filled}
 use Rattle.rules.specs.File.{field, fileDim, fileVertices, fileCells, fileSpare, lengthOf, cellsInFile, outOf, twice, padSet, fileBytes}
-use Rattle.rules.specs.Book.{dim, count, key, held, keysHeld, place, offset, total, rowOf, rowsOf, relation, needs, frameRight, rowsRight}
+use Rattle.rules.specs.Book.{dim, count, key, named, held, mentions, keysHeld, place, offset, total, rowOf, rowsOf, relation, needs, frameRight, rowsRight}
 use Rattle.rules.specs.Made.{made}
 
 -- ==== "Calls": the table
@@ -89,7 +89,11 @@ added ws d e =
     getD ws 0 0 ∷ (getD ws 1 0 + 2 ^ k) ∷ countAfter ws d e (length rows) 1 ∷ countAfter ws d e (length rows) 2 ∷ (used + length new)
     ∷ (take (p - 5) (drop 5 ws) ++ (new ++ take (used - p) (drop p ws)))
 
--- Make's refusals: 10, 11, 12, 14, 15, 13
+-- "Give back room": N_x, 0 < x < D, is kept by some relation held, and the number of entities found for x→0 differs
+unfoldable pub differs : List ℕ → ℕ → Bool
+differs ws x = ltb 0 x && ltb x (dim ws) && mentions (held ws) x && not (eqb (length (made ws x 0)) (count ws x))
+
+-- Make's refusals: 10, 11, 12, 14, 15, and 25 for d→0, then 13 (d→0 is not held where 25 is looked at, so what keeps N_d is another relation)
 unfoldable pub makeRules : List ℕ → ℕ → ℕ → List (Rule ℕ)
 makeRules ws d e =
     rule (not (frameRight ws)) 10
@@ -97,6 +101,7 @@ makeRules ws d e =
     ∷ rule (ltb (dim ws) d || ltb (dim ws) e) 12
     ∷ rule (held ws (key d e)) 14
     ∷ rule (not (allOf (held ws) (needs (dim ws) d e))) 15
+    ∷ rule (eqb e 0 && differs ws d) 25
     ∷ rule (ltb (length ws) (length (added ws d e))) 13
     ∷ []
 
@@ -124,12 +129,17 @@ withKey (suc n) ws k =
 unfoldable pub asked : List ℕ → ℕ → ℕ → List ℕ
 asked ws d e = withKey 6 (take (getD ws 4 0) ws) (key d e)
 
--- Ask's refusals: 10, 11, 12, 13
+-- "Give back room": the ask has to make x→0: it is not held, and is held afterwards
+unfoldable pub hasToMake : List ℕ → ℕ → ℕ → ℕ → Bool
+hasToMake ws d e x = not (held ws (key x 0)) && held (asked ws d e) (key x 0)
+
+-- Ask's refusals: 10, 11, 12, and 25 for any x→0 that it has to make, then 13
 unfoldable pub askRules : List ℕ → ℕ → ℕ → List (Rule ℕ)
 askRules ws d e =
     rule (not (frameRight ws)) 10
     ∷ rule (not (rowsRight ws)) 11
     ∷ rule (ltb (dim ws) d || ltb (dim ws) e) 12
+    ∷ rule (anyOf (λ x. hasToMake ws d e x && differs ws x) (upTo 3)) 25
     ∷ rule (ltb (length ws) (length (asked ws d e))) 13
     ∷ []
 
@@ -173,6 +183,39 @@ listAnswers ws ps ns = cond (eqb (listNumber ps ns) 0) (answersOf ws ps) ns
 -- the book after the list
 unfoldable pub listWords : List ℕ → List ℕ → List ℕ → List ℕ
 listWords ws ps ns = cond (eqb (listNumber ps ns) 0) (wordsOf ws ps) ws
+
+-- ==== "Give back room": Drop
+-- N_x once the mask names the relations that are left: kept while one of them names x, for x = 1, 2
+unfoldable pub countLeft : List ℕ → ℕ → ℕ → ℕ
+countLeft ws mask x = cond (ltb x (dim ws) && mentions (named mask) x) (getD ws (1 + x) 0) 0
+
+-- the words with d→e taken out and later relations moved down, without their free part
+unfoldable pub dropped : List ℕ → ℕ → ℕ → List ℕ
+dropped ws d e =
+    let k = key d e in
+    let mask = getD ws 1 0 - 2 ^ k in
+    let p = place ws k in
+    let q = place ws (suc k) in
+    let used = getD ws 4 0 in
+    getD ws 0 0 ∷ mask ∷ countLeft ws mask 1 ∷ countLeft ws mask 2 ∷ (used - (q - p)) ∷ (take (p - 5) (drop 5 ws) ++ take (used - q) (drop q ws))
+
+-- Drop's refusals: 10, 11, 12, 16, and 24 for D→0
+unfoldable pub dropRules : List ℕ → ℕ → ℕ → List (Rule ℕ)
+dropRules ws d e =
+    rule (not (frameRight ws)) 10
+    ∷ rule (not (rowsRight ws)) 11
+    ∷ rule (ltb (dim ws) d || ltb (dim ws) e) 12
+    ∷ rule (not (held ws (key d e))) 16
+    ∷ rule (eqb d (dim ws) && eqb e 0) 24
+    ∷ []
+
+-- Drop's number, 0 where accepted
+unfoldable pub dropNumber : List ℕ → ℕ → ℕ → ℕ
+dropNumber ws d e = firstBroken (dropRules ws d e) 0
+
+-- the book after Drop: what is freed is zeroed
+unfoldable pub dropWords : List ℕ → ℕ → ℕ → List ℕ
+dropWords ws d e = cond (eqb (dropNumber ws d e) 0) (filled (length ws) (dropped ws d e)) ws
 
 -- ==== "Calls": Row
 -- Row's refusals: 10, 12, 16, 17, and 11 where its own two offsets are not first ≤ second ≤ total

@@ -1,22 +1,22 @@
 -- Words brought down one after another, and whole relations kept one after another.
 use mathlib.Core.Path.{_≡_, refl, sym, ap, _∙_}
-use mathlib.Core.Bool.{Bool, true, false}
-use mathlib.Core.List.{List, [], _∷_, _++_, append-assoc, append-nil}
-use Prim.Native.Nat.{ℕ, zero, suc, _+_, _-_, _/_, _^_, _≤_, _<_}
-use native.Mathlib.Nat.{sub-self, add-zero}
+use mathlib.Core.Bool.{true, false}
+use mathlib.Core.List.{List, _∷_, _++_, append-assoc, append-nil}
+use Prim.Native.Nat.{ℕ, suc, _+_, _-_, _/_, _≤_, _<_}
+use native.Mathlib.Nat.{sub-self}
 use native.Mathlib.Numerals.{add-one}
-use native.Mathlib.Decide.{decLt, ℕ-discrete}
 use native.Mathlib.Omega.{arith}
 use lib.ListN.{length, getD, take, drop, set, replicate, length-append, length-take, length-drop, length-set, take-append-drop}
 use lib.Seq.{take-at, drop-at, length-take-le, drop-drop, take-suc, getD-drop, drop-cons, set-at, take-append-add, getD-append-add}
 use Rattle.rules.specs.Lists.{filled}
-use Rattle.rules.specs.Book.{named, held, count, total, rowsOf, relation, relations, place as placeOf}
+use Rattle.rules.specs.Book.{named, count, total, rowsOf, relation, relations, place as placeOf}
 use Rattle.rules.specs.Steps.{givenBack}
 use Rattle.rules.proofs.Slices.{slice-take, drop-later}
-use Rattle.rules.proofs.FrameRule.{Framed, framed, place-held, place-skipped, place-rises}
+use Rattle.rules.proofs.FrameRule.{Framed, framed, place-held, place-rises}
 use Rattle.rules.proofs.Assembled.{relations-held, relations-skipped}
 use Rattle.rules.proofs.RightBook.{relation-is}
-use Rattle.settle.specs.Settled.{cleared, lowered, Leaves, Kept}
+use Rattle.settle.specs.Settled.{Zeroed, cleared, lowered, closedUp, Leaves, Kept}
+use Rattle.settle.proofs.Clearing.{zeroed-part}
 
 -- ---- words brought down
 -- vs is ws with the words from a up to i brought down to t, up to j
@@ -79,6 +79,18 @@ drop-behind p vs x y n l =
     ap (λ (i : ℕ). drop i (p ++ drop x vs)) s
     ∙ sym (drop-drop (y - x) x (p ++ drop x vs)) ∙ ap (drop (y - x)) (drop-at p (drop x vs) x n)
     ∙ drop-drop (y - x) x vs ∙ ap (λ (i : ℕ). drop i vs) (sym s)
+
+-- words taken out: what was behind them, brought down, and zeros where it stood last
+pub closed-up : (ws : List ℕ) (p q u end : ℕ) (vs us : List ℕ) → p ≤ q → q ≤ u → u ≤ length ws → end ≡ p + (u - q) → vs ≡ lowered q u p ws → Zeroed vs end u us → us ≡ closedUp p q u ws
+unfolding lowered closedUp
+closed-up ws p q u end vs us a b l e w z =
+    let kept = take p ws ++ take (u - q) (drop q ws) in
+    let n : length kept ≡ p + (u - q) = length-append (take p ws) (take (u - q) (drop q ws)) ∙ rw (length-take-le p ws (omega arith), length-take-le (u - q) (drop q ws) (rw length-drop (omega arith))) in
+    let v : vs ≡ kept ++ drop (p + (u - q)) ws = w ∙ sym (append-assoc (take p ws) (take (u - q) (drop q ws)) (drop (p + (u - q)) ws)) in
+    let m : length vs ≡ length ws = ap length v ∙ length-append kept (drop (p + (u - q)) ws) ∙ rw (n, length-drop) (omega arith) in
+    let s : u - (p + (u - q)) ≡ q - p = omega arith in
+    zeroed-part vs end u us z (omega arith) (omega arith)
+    ∙ rw (e, v, take-at kept (drop (p + (u - q)) ws) (p + (u - q)) n, drop-behind kept ws (p + (u - q)) u n (omega arith), s) (append-assoc (take p ws) (take (u - q) (drop q ws)) (replicate (q - p) 0 ++ drop u ws))
 
 -- ---- relations kept
 -- the relations of ws below key k that the mask names stand behind the first five words of vs, up to t, and from relation k on vs is ws

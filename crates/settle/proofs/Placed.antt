@@ -1,22 +1,20 @@
--- A relation written behind the used words and settled at its place, with the head's words set, is what Make leaves.
-use mathlib.Core.Path.{_≡_, refl, sym, ap, _∙_}
-use mathlib.Core.Bool.{true, false}
+-- A relation written behind the used words and settled at its place, with the head's words set, is what Make leaves; and one taken out is what Drop leaves.
+use mathlib.Core.Path.{_≡_, refl, sym, ap, ap₂, _∙_}
 use mathlib.Core.List.{List, [], _∷_, _++_, append-assoc}
 use Prim.Native.Nat.{ℕ, zero, suc, _+_, _-_, _^_, _≤_, _<_}
 use native.Mathlib.Nat.{sub-zero, zero-sub, suc-sub-suc}
 use native.Mathlib.Omega.{arith}
-use lib.ListN.{length, getD, take, drop, set, replicate, length-append, length-take, length-drop, take-append-drop, List·getD-append, length-set, drop-of-length-le}
-use lib.Seq.{take-at, drop-at, take-append-le, drop-append-le, length-take-le, drop-drop, getD-take, getD-set-same, drop-set-lt}
+use lib.ListN.{length, getD, take, drop, set, replicate, length-append, length-take, length-drop, take-append-drop, replicate-append-replicate, List·getD-append, length-set, drop-of-length-le}
+use lib.Seq.{take-at, drop-at, drop-append-le, length-take-le, drop-drop, getD-take, getD-set-same, drop-set-lt}
 use Rattle.rules.specs.Lists.{filled}
-use Rattle.rules.specs.Book.{dim, key, place, relation}
+use Rattle.rules.specs.Book.{key, place, relation, Right}
 use Rattle.rules.specs.Made.{made}
 use Rattle.rules.specs.Calls.{countAfter, added}
 use Rattle.rules.proofs.Slices.{slice-take, take-front, part-front}
 use Rattle.rules.proofs.FrameRule.{Framed, framed, place-rises}
 use Rattle.rules.proofs.RightBook.{free-are}
-use Rattle.rules.proofs.RightAsk.{Right}
 use Rattle.rules.proofs.Growing.{length-added}
-use Rattle.settle.specs.Settled.{settled, cleared, headed}
+use Rattle.settle.specs.Settled.{settled, cleared, headed, closedUp}
 
 -- the first five words, and the rest
 five-words : (ws : List ℕ) → 5 ≤ length ws → ws ≡ getD ws 0 0 ∷ getD ws 1 0 ∷ getD ws 2 0 ∷ getD ws 3 0 ∷ getD ws 4 0 ∷ drop 5 ws
@@ -54,6 +52,19 @@ module _ (ws : List ℕ) (g : Right ws) (d e : ℕ) (low : key d e ≤ 16) where
 
   at-high : at ≤ used
   at-high = omega (arith, place-rises ws (key d e) 16 low, f .ends)
+
+  -- the first words stand, whatever follows them
+  module _ (rest : List ℕ) where
+    long : 5 ≤ length (take at ws)
+    long = simp length-take (omega (arith, at-low, at-high, f .fits))
+
+    first-word : getD (take at ws ++ rest) 0 0 ≡ getD ws 0 0
+    first-word = List·getD-append (take at ws) rest 0 0 (omega (arith, long)) ∙ getD-take at ws 0 0 (omega (arith, at-low))
+
+    headed-rest : (mask x y u : ℕ) → headed mask x y u (take at ws ++ rest) ≡ getD ws 0 0 ∷ mask ∷ x ∷ y ∷ u ∷ (take (at - 5) (drop 5 ws) ++ rest)
+    headed-rest mask x y u =
+        headed-words mask x y u (take at ws ++ rest) (rw length-append (omega (arith, long)))
+        ∙ rw (first-word, drop-append-le 5 (take at ws) rest long, slice-take 5 at ws)
 
   -- the words before the used length stand, and the rest is cleared: nothing has changed
   pub cleared-back : (vs : List ℕ) → length vs ≡ length ws → take used vs ≡ take used ws → cleared used vs ≡ ws
@@ -98,24 +109,11 @@ module _ (ws : List ℕ) (g : Right ws) (d e : ℕ) (low : key d e ≤ 16) where
     abbrev tail : List ℕ
     tail = take (used - at) (drop at ws)
 
-    first-word : getD (take at ws ++ (new ++ (tail ++ drop end ws))) 0 0 ≡ getD ws 0 0
-    first-word =
-        let n : 0 < length (take at ws) = simp length-take (omega (arith, at-low, at-high, f .fits)) in
-        List·getD-append (take at ws) _ 0 0 n ∙ getD-take at ws 0 0 (omega (arith, at-low))
-
-    later-words : drop 5 (take at ws ++ (new ++ (tail ++ drop end ws))) ≡ take (at - 5) (drop 5 ws) ++ (new ++ (tail ++ replicate (length ws - end) 0))
-    later-words =
-        let n : 5 ≤ length (take at ws) = simp length-take (omega (arith, at-low, at-high, f .fits)) in
-        rw (drop-append-le 5 (take at ws) (new ++ (tail ++ drop end ws)) n, free, slice-take 5 at ws)
-
-    settled-long : 5 ≤ length (take at ws ++ (new ++ (tail ++ drop end ws)))
-    settled-long = rw length-append (simp length-take (omega (arith, at-low, at-high, f .fits)))
-
     -- with the head
     pub placed : headed (getD ws 1 0 + 2 ^ key d e) (countAfter ws d e (length (made ws d e)) 1) (countAfter ws d e (length (made ws d e)) 2) end (settled at used end appended)
         ≡ filled (length ws) (added ws d e)
     placed =
-        rw (settled-words, headed-words (getD ws 1 0 + 2 ^ key d e) (countAfter ws d e (length (made ws d e)) 1) (countAfter ws d e (length (made ws d e)) 2) end (take at ws ++ (new ++ (tail ++ drop end ws))) settled-long, first-word, later-words)
+        rw (settled-words, headed-rest (new ++ (tail ++ drop end ws)) (getD ws 1 0 + 2 ^ key d e) (countAfter ws d e (length (made ws d e)) 1) (countAfter ws d e (length (made ws d e)) 2) end, free)
         (sym wanted)
       where
         n : length (added ws d e) ≡ getD ws 4 0 + length (relation (made ws d e))
@@ -125,6 +123,44 @@ module _ (ws : List ℕ) (g : Right ws) (d e : ℕ) (low : key d e ≤ 16) where
             ≡ getD ws 0 0 ∷ (getD ws 1 0 + 2 ^ key d e) ∷ countAfter ws d e (length (made ws d e)) 1 ∷ countAfter ws d e (length (made ws d e)) 2 ∷ (getD ws 4 0 + length (relation (made ws d e)))
             ∷ (take (place ws (key d e) - 5) (drop 5 ws) ++ (relation (made ws d e) ++ (take (getD ws 4 0 - place ws (key d e)) (drop (place ws (key d e)) ws) ++ replicate (length ws - (getD ws 4 0 + length (relation (made ws d e)))) 0)))
         wanted = unfold filled in rw n (unfold added in simp append-assoc)
+
+  -- d→e taken out, with the head
+  module _ (below : key d e < 16) where
+    abbrev next : ℕ
+    next = place ws (suc (key d e))
+
+    abbrev later : List ℕ
+    later = take (used - next) (drop next ws)
+
+    next-low : at ≤ next
+    next-low = place-rises ws (key d e) (suc (key d e)) (omega arith)
+
+    next-high : next ≤ used
+    next-high = omega (arith, place-rises ws (suc (key d e)) 16 (omega arith), f .ends)
+
+    -- the words that are left
+    abbrev less : ℕ → ℕ → ℕ → List ℕ
+    less mask x y = getD ws 0 0 ∷ mask ∷ x ∷ y ∷ (used - (next - at)) ∷ (take (at - 5) (drop 5 ws) ++ later)
+
+    less-length : (mask x y : ℕ) → length (less mask x y) ≡ used - (next - at)
+    less-length mask x y =
+        let a : length (take (at - 5) (drop 5 ws)) ≡ at - 5 = length-take-le (at - 5) (drop 5 ws) (rw length-drop (omega (arith, at-low, at-high, f .fits))) in
+        let b : length later ≡ used - next = length-take-le (used - next) (drop next ws) (rw length-drop (omega (arith, next-high, f .fits))) in
+        ap (λ (n : ℕ). suc (suc (suc (suc (suc n))))) (length-append (take (at - 5) (drop 5 ws)) later ∙ ap₂ _+_ a b) ∙ five-more
+      where
+        five-more : suc (suc (suc (suc (suc (at - 5 + (used - next)))))) ≡ used - (next - at)
+        five-more = omega (arith, at-low, next-low, next-high)
+
+    zeros-after : (mask x y : ℕ) → replicate (next - at) 0 ++ drop used ws ≡ replicate (length ws - length (less mask x y)) 0
+    zeros-after mask x y =
+        let z : next - at + (length ws - used) ≡ length ws - length (less mask x y) = omega (arith, less-length mask x y, next-low, next-high, at-low, f .fits) in
+        rw (free-are ws f (g .rows)) (replicate-append-replicate (next - at) (length ws - used) 0 ∙ ap (λ (n : ℕ). replicate n 0) z)
+
+    pub parted : (mask x y u : ℕ) → u ≡ at + (used - next) → headed mask x y u (closedUp at next used ws) ≡ filled (length ws) (less mask x y)
+    unfolding closedUp filled
+    parted mask x y u q =
+        let z : u ≡ used - (next - at) = omega (arith, next-low, next-high, at-low) in
+        headed-rest (later ++ (replicate (next - at) 0 ++ drop used ws)) mask x y u ∙ rw (z, zeros-after mask x y) (simp append-assoc)
 
 -- a whole head set
 pub headed-head : (head vs : List ℕ) → length head ≡ 5 → 5 ≤ length vs

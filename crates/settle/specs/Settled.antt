@@ -42,6 +42,13 @@ pub record PutBack (ws : List ℕ) (p : ℕ) (xs : List ℕ) (n : ℕ) (vs : Lis
 unfoldable pub settled : ℕ → ℕ → ℕ → List ℕ → List ℕ
 settled p u t ws = take p ws ++ (take (t - u) (drop u ws) ++ (take (u - p) (drop p ws) ++ drop t ws))
 
+-- vs is ws with the words from a up to b set to 0
+pub record Zeroed (ws : List ℕ) (a b : ℕ) (vs : List ℕ) : Type 0 where
+  pub size : length vs ≡ length ws
+  pub zeros : (k : ℕ) → a ≤ k → k < b → getD vs k 0 ≡ 0
+  pub below : (k : ℕ) → k < a → getD vs k 0 ≡ getD ws k 0
+  pub above : (k : ℕ) → b ≤ k → getD vs k 0 ≡ getD ws k 0
+
 -- the words with every one from p on 0
 unfoldable pub cleared : ℕ → List ℕ → List ℕ
 cleared p ws = take p ws ++ replicate (length ws - p) 0
@@ -53,6 +60,10 @@ headed mask edges faces used ws = set (set (set (set ws 1 mask) 2 edges) 3 faces
 -- the words from `from` up to `end` brought down to `to`
 unfoldable pub lowered : ℕ → ℕ → ℕ → List ℕ → List ℕ
 lowered from end to ws = take to ws ++ (take (end - from) (drop from ws) ++ drop (to + (end - from)) ws)
+
+-- the words from p up to q taken out, those up to u moved down, and as many zeros behind them
+unfoldable pub closedUp : ℕ → ℕ → ℕ → List ℕ → List ℕ
+closedUp p q u ws = take p ws ++ (take (u - q) (drop q ws) ++ (replicate (q - p) 0 ++ drop u ws))
 
 -- the book is right, and holds every relation that the mask names
 pub record Leaves (ws : List ℕ) (mask : ℕ) : Type 0 where

@@ -1,10 +1,9 @@
-// Words moved within the book: a relation that was written behind the used words goes to its place by key, and free words are set to 0.
+// Words moved within the book: a relation that was written behind the used words goes to its place by key, one is taken out, and words that are free are set to 0.
 ghost use mathlib.Core.Path.{_≡_};
 ghost use Prim.Native.Nat.{_+_, _-_, _^_, _≤_, _<_, min};
 ghost use lib.ListN.{length, getD};
-ghost use Rattle.rules.specs.Book.{named};
 ghost use Rattle.rules.specs.Steps.{givenBack};
-ghost use Rattle.settle.specs.Settled.{Within, Exchanged, Raised, Saved, PutBack, settled, cleared, headed, lowered, Leaves, Kept};
+ghost use Rattle.settle.specs.Settled.{Within, Exchanged, Raised, Saved, PutBack, settled, Zeroed, cleared, headed, lowered, closedUp, Leaves, Kept};
 use book::Place;
 
 // Exchanges the words from one place on with as many from a later one on.
@@ -126,15 +125,36 @@ pub fn settle(book: &mut [u32], at: Place, used: Place, end: Place)
     settle_few(book, Place(front), Place(middle), end);
 }
 
+// Sets the words from one place up to another to 0.
+fn zero(book: &mut [u32], from: Place, end: Place)
+    requires { ⌜ end .0 ≤ length (now book) ⌝ }
+    ensures { λ r. ⌜ Zeroed (now (book .entry)) (from .0) (end .0) (now (book .exit)) ⌝ }
+{
+    let last = end.0;
+    let mut at = from.0;
+    while at < last {
+        book[at] = 0;
+        at += 1;
+    }
+}
+
 // Sets every word from a place on to 0.
 pub fn clear(book: &mut [u32], from: Place)
     ensures { λ r. ⌜ now (book .exit) ≡ cleared (from .0) (now (book .entry)) ⌝ }
 {
-    let mut at = from.0;
-    while at < book.len() {
-        book[at] = 0;
-        at += 1;
-    }
+    let end = Place(book.len());
+    zero(book, from, end);
+}
+
+// Takes the words from one place up to another out: those behind them, up to `used`, move down, and the words freed are set to 0. Gives the place after the words moved.
+pub fn close_up(book: &mut [u32], from: Place, to: Place, used: Place) -> Place
+    requires { ⌜ Within (from .0) (to .0) (used .0) × (used .0 ≤ length (now book)) ⌝ }
+    ensures place { λ r. ⌜ r .0 ≡ from .0 + (used .0 - to .0) ⌝ }
+    ensures words { λ r. ⌜ now (book .exit) ≡ closedUp (from .0) (to .0) (used .0) (now (book .entry)) ⌝ }
+{
+    let end = move_down(book, to, used, from);
+    zero(book, end, used);
+    end
 }
 
 // Sets words 1 to 4: the relations held, N_1, N_2 and the used length.
@@ -149,14 +169,6 @@ pub fn set_head(book: &mut [u32], mask: u32, edges: u32, faces: u32, used: Place
     book[4] = used_words;
 }
 
-// Whether a sum of powers of two has 2^k in it.
-fn has_power(mask: u32, k: usize) -> bool
-    requires { ⌜ k < 16 ⌝ }
-    ensures { λ r. ⌜ r ≡ named mask k ⌝ }
-{
-    (mask >> k) % 2 == 1
-}
-
 // Brings down the relations that the mask names, and gives the place after them.
 fn keep_only(book: &mut [u32], mask: u32) -> Place
     requires { ⌜ Leaves (now book) mask ⌝ }
@@ -167,7 +179,7 @@ fn keep_only(book: &mut [u32], mask: u32) -> Place
     let mut to = Place(5);
     let mut k: usize = 0;
     while k < 16 {
-        if has_power(mask, k) {
+        if book::named(mask, k as u32) {
             to = move_down(book, at[k], at[k + 1], to);
         }
         k += 1;

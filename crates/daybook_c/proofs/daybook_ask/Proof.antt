@@ -24,6 +24,9 @@ enum-told-3 c = search needs
 enum-told-4 : tie.Need-enum-told-4
 enum-told-4 c = search needs
 
+enum-told-5 : tie.Need-enum-told-5
+enum-told-5 c = search needs
+
 same-length : tie.Need-same-length
 same-length c = search needs
 
@@ -72,6 +75,15 @@ returns-5 c =
     let w = c .before .before .before .before .ask .ensures in
     (sym (ap askedNumber (c .enum-told4 .given .1)) ∙ w .0, (refl, (refl, w .1 .1)))
 
+same-length-6 : tie.Need-same-length-6
+same-length-6 c = search needs
+
+returns-6 : tie.Need-returns-6
+unfolding askedNumber
+returns-6 c =
+    let w = c .before .before .before .before .ask .ensures in
+    (sym (ap askedNumber (c .enum-told5 .given .1)) ∙ w .0, (refl, (refl, w .1 .1)))
+
 pub daybook-ask-spec : {M : Type 1} → statement M
 daybook-ask-spec =
     tie.close
@@ -82,6 +94,7 @@ daybook-ask-spec =
     enum-known-place
     enum-told-3
     enum-told-4
+    enum-told-5
     same-length
     returns
     same-length-2
@@ -91,4 +104,6 @@ daybook-ask-spec =
     same-length-4
     returns-4
     same-length-5
-    returns-5)
+    returns-5
+    same-length-6
+    returns-6)

@@ -30,6 +30,9 @@ enum-told-5 c = search needs
 enum-told-6 : tie.Need-enum-told-6
 enum-told-6 c = search needs
 
+enum-told-7 : tie.Need-enum-told-7
+enum-told-7 c = search needs
+
 same-length : tie.Need-same-length
 same-length c = search needs
 
@@ -96,6 +99,15 @@ returns-7 c =
     let w = c .before .before .before .before .make .ensures in
     (sym (ap madeNumber (c .enum-told6 .given .1)) ∙ w .0, (refl, (refl, w .1 .1)))
 
+same-length-8 : tie.Need-same-length-8
+same-length-8 c = search needs
+
+returns-8 : tie.Need-returns-8
+unfolding madeNumber
+returns-8 c =
+    let w = c .before .before .before .before .make .ensures in
+    (sym (ap madeNumber (c .enum-told7 .given .1)) ∙ w .0, (refl, (refl, w .1 .1)))
+
 pub daybook-make-spec : {M : Type 1} → statement M
 daybook-make-spec =
     tie.close
@@ -108,6 +120,7 @@ daybook-make-spec =
     enum-told-4
     enum-told-5
     enum-told-6
+    enum-told-7
     same-length
     returns
     same-length-2
@@ -121,4 +134,6 @@ daybook-make-spec =
     same-length-6
     returns-6
     same-length-7
-    returns-7)
+    returns-7
+    same-length-8
+    returns-8)

@@ -1,10 +1,9 @@
--- Each answer has its number; where accepted, the place and the length of the part that Row hands back, and with 11 the row's place.
+-- Each answer has its number; where accepted, the place and the length of the row, and with 11 the row's place.
 use mathlib.Core.Path.{_≡_, refl, sym, ap, _∙_}
 use Prim.Native.Nat.{ℕ}
 use lib.ListN.{length}
-use Rattle.rules.specs.Book.{key, rowStart, rowOf}
-use Rattle.rules.specs.Calls.{rowNumber, rowPart}
-use Rattle.rules.proofs.Accepted.{row-is}
+use Rattle.rules.specs.Book.{rowStart, rowOf}
+use Rattle.rules.specs.Calls.{rowNumber}
 use Rattle.rules.proofs.Told.{told-row}
 use Rattle.reading.specs.Answers.{rowAnswer, rowAnswerPlace}
 use Rattle.daybook_c.proofs.Given.{accepted-low, key-low}
@@ -23,14 +22,17 @@ row-answer-requires c κs = search needs
 enum-told : tie.Need-enum-told
 enum-told c = search needs
 
+key-requires : tie.Need-key-requires
+key-requires c κs = accepted-low _ _ _ _ (accepted c)
+
 row-requires : tie.Need-row-requires
 row-requires c κs = search needs
 
-key-requires : tie.Need-key-requires
-key-requires c κs = accepted-low _ _ _ _ (accepted (c .before))
-
 place-of-row-requires : tie.Need-place-of-row-requires
-place-of-row-requires c κs = let a = accepted-low _ _ _ _ (accepted (c .before .before)) in rw (c .key .ensures) (key-low _ _ (a .0) (a .1))
+place-of-row-requires c κs =
+    let k = c .before in
+    let a = accepted-low _ _ _ _ (accepted (k .before)) in
+    rw (k .key .ensures) (key-low _ _ (a .0) (a .1))
 
 enum-told-2 : tie.Need-enum-told-2
 enum-told-2 c = search needs
@@ -49,11 +51,13 @@ enum-known-place c = search needs
 
 returns : tie.Need-returns
 returns c =
-    let r = c .before .before in
-    let a = r .before .before .before .before .before .args in
-    let z = accepted (r .before) in
-    let p : rowPart (a .book .now) (a .d) (a .e) (a .i) ≡ rowOf (a .book .now) (key (a .d) (a .e)) (a .i) = row-is (a .book .now) (a .d) (a .e) (a .i) ∙ rw z in
-    (sym z, (refl, (refl, (c .place-of-row .ensures ∙ ap (λ (k : ℕ). rowStart (a .book .now) k (a .i)) (c .before .key .ensures), ap length (r .row .ensures .words ∙ p)))))
+    let r = c .before in
+    let k = r .before in
+    let a = k .before .before .before .before .before .args in
+    let e = k .key .ensures in (
+      sym (accepted (k .before)),
+      (refl, (refl, (c .place-of-row .ensures ∙ ap (λ (j : ℕ). rowStart (a .book .now) j (a .i)) e, ap length (r .row .ensures .words ∙ ap (λ (j : ℕ). rowOf (a .book .now) j (a .i)) e)))),
+    )
 
 returns-2 : tie.Need-returns-2
 unfolding rowAnswer
@@ -94,8 +98,8 @@ daybook-row-spec =
     (tie.spec
     row-answer-requires
     enum-told
-    row-requires
     key-requires
+    row-requires
     place-of-row-requires
     enum-told-2
     enum-told-3

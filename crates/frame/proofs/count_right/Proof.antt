@@ -5,7 +5,8 @@ use Prim.Native.Nat.{ℕ, _*_}
 use native.Mathlib.Omega.{arith}
 use borrow.Author.Needs.{needs}
 use borrow.Author.Tests.{lt-ltb, le-ltb}
-use Rattle.rules.specs.Book.{dim, count, key, held, most, countRight}
+use lib.ListN.{getD}
+use Rattle.rules.specs.Book.{dim, count, named, held, mentions, most, countRight}
 use Rattle.rules.proofs.AnyWords.{dim-most, most-times}
 use Rattle.book.proofs.Flags.{off, on}
 use Rattle.frame.proofs.count_right.Statement.{statement}
@@ -26,19 +27,19 @@ returns c =
     let a = c .before .before .before .before .args in
     rw (c .before .word .ensures, le-ltb (a .d) (dim (a .book .now)) (omega arith))
 
-key-requires : tie.Need-key-requires
-key-requires c κs =
-    let m = dim-most (c .before .before .before .before .args .book .now) (λ i. c .before .before .before .shared-slice-known .given i .fits) in
-    (omega arith, omega arith)
+word-requires-2 : tie.Need-word-requires-2
+word-requires-2 c κs = search needs
 
-held-requires : tie.Need-held-requires
-held-requires c κs = search needs
+mentions-requires : tie.Need-mentions-requires
+mentions-requires c κs =
+    let m = dim-most (c .before .before .before .before .before .args .book .now) (λ i. c .before .before .before .before .shared-slice-known .given i .fits) in
+    omega arith
 
 returns-2 : tie.Need-returns-2
-unfolding countRight
+unfolding countRight held
 returns-2 c =
     let a = c .before .before .before .before .before .before .before .args in
-    let h : held (a .book .now) (key (a .d) 0) ≡ false = off (c .before .held .ensures ∙ ap (held (a .book .now)) (c .before .before .key .ensures)) (c .if2 .taken) in
+    let h : mentions (named (getD (a .book .now) 1 0)) (a .d) ≡ false = off (c .before .mentions .ensures ∙ ap (λ (m : ℕ). mentions (named m) (a .d)) (c .before .before .word2 .ensures)) (c .if2 .taken) in
     rw (c .before .before .before .before .word .ensures, lt-ltb (a .d) (dim (a .book .now)) (omega arith), h)
 
 most-requires : tie.Need-most-requires
@@ -62,11 +63,11 @@ mul-result c =
     record { fits = rw (bound c) (most-times (a .book .now) (a .d) (omega (arith, e, c .before .before .before .before .before .if1 .left))) }
 
 returns-3 : tie.Need-returns-3
-unfolding countRight
+unfolding countRight held
 returns-3 c =
     let a = c .before .before .before .before .before .before .before .before .before .args in
     let e = c .before .before .before .before .before .before .before .dim .ensures in
-    let h : held (a .book .now) (key (a .d) 0) ≡ true = on (c .before .before .before .held .ensures ∙ ap (held (a .book .now)) (c .before .before .before .before .key .ensures)) (c .before .before .if2 .left) in
+    let h : mentions (named (getD (a .book .now) 1 0)) (a .d) ≡ true = on (c .before .before .before .mentions .ensures ∙ ap (λ (m : ℕ). mentions (named m) (a .d)) (c .before .before .before .before .word2 .ensures)) (c .before .before .if2 .left) in
     rw (bound c, c .before .before .before .before .before .before .word .ensures, lt-ltb (a .d) (dim (a .book .now)) (omega (arith, e, c .before .before .before .before .before .if1 .left)), h)
 
 pub count-right-spec : {M : Type 1} → statement M
@@ -77,8 +78,8 @@ count-right-spec =
     add-t6
     word-requires
     returns
-    key-requires
-    held-requires
+    word-requires-2
+    mentions-requires
     returns-2
     most-requires
     count-requires

@@ -3,7 +3,7 @@ use mathlib.Core.Path.{_∙_}
 use Prim.Native.Nat.{_-_, _^_}
 use lib.ListN.{getD}
 use Rattle.rules.proofs.Growing.{Under}
-use Rattle.making.proofs.Reached.{begins, near, done, makable, stuck, further, less}
+use Rattle.making.proofs.Reached.{begins, near, next-same, done, makable, stuck, further, less}
 use Rattle.making.proofs.hold.Statement.{statement}
 use Rattle.making.proofs.hold.Tie as tie
 
@@ -19,23 +19,29 @@ loop-holds c = begins _ _ (c .before .pre)
 held-requires : tie.Need-held-requires Inv-loop μ-loop
 held-requires c κs = tt
 
+dim-requires : tie.Need-dim-requires Inv-loop μ-loop
+dim-requires c κs = tt
+
+word-requires : tie.Need-word-requires Inv-loop μ-loop
+word-requires c κs = tt
+
 next-key-requires : tie.Need-next-key-requires Inv-loop μ-loop
-next-key-requires c κs = near _ _ (c .before .before .before .before .before .before .pre) _ (c .before .before .before .before .loop .inv)
+next-key-requires c κs = near _ _ (c .before .before .before .before .before .before .before .before .before .pre) _ (c .before .before .before .before .before .before .before .loop .inv) _ (c .before .before .dim .ensures)
 
 add-requires : tie.Need-add-requires Inv-loop μ-loop
-add-requires c κs = makable _ _ (c .before .before .before .before .before .before .before .before .pre) _ (c .before .before .before .before .before .before .loop .inv) _ (c .before .before .before .before .held .ensures) (c .before .before .before .if1 .taken) _ (c .before .next-key .ensures)
+add-requires c κs = makable _ _ (c .before .before .before .before .before .before .before .before .before .before .before .pre) _ (c .before .before .before .before .before .before .before .before .before .loop .inv) _ (c .before .before .before .before .before .before .before .held .ensures) (c .before .before .before .before .before .before .if1 .taken) _ (next-same _ _ (c .before .before .before .before .before .before .before .before .before .before .before .pre) _ (c .before .before .before .before .before .before .before .before .before .loop .inv) _ _ _ (c .before .before .before .before .dim .ensures) (c .before .before .word .ensures) (c .before .next-key .ensures))
 
 same-length : tie.Need-same-length Inv-loop μ-loop
-same-length c = c .before .before .before .add .kept .0 ∙ c .before .before .before .before .before .before .before .before .before .before .loop .inv .grown .size
+same-length c = c .before .before .before .add .kept .0 ∙ c .before .before .before .before .before .before .before .before .before .before .before .before .before .loop .inv .grown .size
 
 returns : tie.Need-returns Inv-loop μ-loop
-returns c = stuck _ _ (c .before .before .before .before .before .before .before .before .before .before .before .before .pre) _ (c .before .before .before .before .before .before .before .before .before .before .loop .inv) _ (c .before .before .before .before .before .before .before .before .held .ensures) (c .before .before .before .before .before .before .before .if1 .taken) _ (c .before .before .before .before .before .next-key .ensures) _ (c .before .before .before .add .ensures .0) _ (c .before .before .before .add .ensures .1) (c .if2 .taken)
+returns c = stuck _ _ (c .before .before .before .before .before .before .before .before .before .before .before .before .before .before .before .pre) _ (c .before .before .before .before .before .before .before .before .before .before .before .before .before .loop .inv) _ (c .before .before .before .before .before .before .before .before .before .before .before .held .ensures) (c .before .before .before .before .before .before .before .before .before .before .if1 .taken) _ (next-same _ _ (c .before .before .before .before .before .before .before .before .before .before .before .before .before .before .before .pre) _ (c .before .before .before .before .before .before .before .before .before .before .before .before .before .loop .inv) _ _ _ (c .before .before .before .before .before .before .before .before .dim .ensures) (c .before .before .before .before .before .before .word .ensures) (c .before .before .before .before .before .next-key .ensures)) _ (c .before .before .before .add .ensures .0) _ (c .before .before .before .add .ensures .1) (c .if2 .taken)
 
 loop-less : tie.Need-loop-less Inv-loop μ-loop
-loop-less c = less _ _ (c .before .before .before .before .before .before .before .before .before .before .before .before .pre) _ (c .before .before .before .before .before .before .before .before .before .before .loop .inv) _ (c .before .before .before .before .before .before .before .before .held .ensures) (c .before .before .before .before .before .before .before .if1 .taken) _ (c .before .before .before .before .before .next-key .ensures) _ (c .before .before .before .add .ensures .0) _ (c .before .before .before .add .ensures .1) (c .if2 .left)
+loop-less c = less _ _ (c .before .before .before .before .before .before .before .before .before .before .before .before .before .before .before .pre) _ (c .before .before .before .before .before .before .before .before .before .before .before .before .before .loop .inv) _ (c .before .before .before .before .before .before .before .before .before .before .before .held .ensures) (c .before .before .before .before .before .before .before .before .before .before .if1 .taken) _ (next-same _ _ (c .before .before .before .before .before .before .before .before .before .before .before .before .before .before .before .pre) _ (c .before .before .before .before .before .before .before .before .before .before .before .before .before .loop .inv) _ _ _ (c .before .before .before .before .before .before .before .before .dim .ensures) (c .before .before .before .before .before .before .word .ensures) (c .before .before .before .before .before .next-key .ensures)) _ (c .before .before .before .add .ensures .0) _ (c .before .before .before .add .ensures .1) (c .if2 .left)
 
 loop-again : tie.Need-loop-again Inv-loop μ-loop
-loop-again c = further _ _ (c .before .before .before .before .before .before .before .before .before .before .before .before .pre) _ (c .before .before .before .before .before .before .before .before .before .before .loop .inv) _ (c .before .before .before .before .before .before .before .before .held .ensures) (c .before .before .before .before .before .before .before .if1 .taken) _ (c .before .before .before .before .before .next-key .ensures) _ (c .before .before .before .add .ensures .0) _ (c .before .before .before .add .ensures .1) (c .if2 .left)
+loop-again c = further _ _ (c .before .before .before .before .before .before .before .before .before .before .before .before .before .before .before .pre) _ (c .before .before .before .before .before .before .before .before .before .before .before .before .before .loop .inv) _ (c .before .before .before .before .before .before .before .before .before .before .before .held .ensures) (c .before .before .before .before .before .before .before .before .before .before .if1 .taken) _ (next-same _ _ (c .before .before .before .before .before .before .before .before .before .before .before .before .before .before .before .pre) _ (c .before .before .before .before .before .before .before .before .before .before .before .before .before .loop .inv) _ _ _ (c .before .before .before .before .before .before .before .before .dim .ensures) (c .before .before .before .before .before .before .word .ensures) (c .before .before .before .before .before .next-key .ensures)) _ (c .before .before .before .add .ensures .0) _ (c .before .before .before .add .ensures .1) (c .if2 .left)
 
 same-length-2 : tie.Need-same-length-2 Inv-loop μ-loop
 same-length-2 c = c .before .before .before .loop .inv .grown .size
@@ -51,6 +57,8 @@ hold-spec =
     μ-loop
     loop-holds
     held-requires
+    dim-requires
+    word-requires
     next-key-requires
     add-requires
     same-length

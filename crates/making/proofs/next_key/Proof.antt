@@ -2,17 +2,17 @@
 use mathlib.Core.Path.{_≡_, refl, sym, _∙_}
 use Prim.Native.Nat.{_<_}
 use native.Mathlib.Omega.{arith}
-use Rattle.rules.specs.Book.{dim, held}
+use Rattle.rules.specs.Book.{named}
 use Rattle.rules.specs.Steps.{nextKey}
 use Rattle.making.proofs.Walk.{onward-small, next-step, next-end}
 use Rattle.making.proofs.next_key.Statement.{statement}
 use Rattle.making.proofs.next_key.Tie as tie
 
 abbrev Inv-loop : tie.InvT-loop
-Inv-loop book k at₀ steps₀ at steps = (at < 16) × (nextKey steps (dim book) (held book) at ≡ nextKey 6 (dim book) (held book) k)
+Inv-loop top mask k at₀ steps₀ at steps = (at < 16) × (nextKey steps top (named mask) at ≡ nextKey 6 top (named mask) k)
 
 abbrev μ-loop : tie.MeasureT-loop
-μ-loop book k at₀ steps₀ at steps = steps
+μ-loop top mask k at₀ steps₀ at steps = steps
 
 loop-holds : tie.Need-loop-holds Inv-loop μ-loop
 loop-holds c = (omega arith, refl)
@@ -29,10 +29,10 @@ loop-less c = omega arith
 loop-again : tie.Need-loop-again Inv-loop μ-loop
 loop-again c =
     let v = c .before .before .loop .inv in
-    let b = c .before .before .before .before .args .book .now in
+    let a = c .before .before .before .args in
     let q = c .onward .ensures in
-    let p = c .before .before .before .before .pre in
-    (rw q (onward-small (dim b) (held b) _ (p .0) (v .0)), rw q (next-step _ (dim b) (held b) _ (c .before .loop-test .taken) ∙ v .1))
+    let p = c .before .before .before .pre in
+    (rw q (onward-small (a .top) (named (a .mask)) _ (p .0) (v .0)), rw q (next-step _ (a .top) (named (a .mask)) _ (c .before .loop-test .taken) ∙ v .1))
 
 returns : tie.Need-returns Inv-loop μ-loop
 returns c = let v = c .before .loop .inv in sym (next-end _ _ _ _ (c .loop-test .left)) ∙ v .1

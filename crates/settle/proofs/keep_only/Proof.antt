@@ -1,11 +1,11 @@
 -- The relations passed that the mask names are kept, and from the next one on the book is as it was.
-use mathlib.Core.Path.{_≡_, refl, sym, ap, _∙_}
+use mathlib.Core.Path.{_≡_, sym, ap, _∙_}
 use mathlib.Core.Logic.{⊎-elim}
 use mathlib.Core.List.{List, map}
 use Prim.Native.Nat.{ℕ, _+_, _-_, _≤_, _<_}
 use native.Mathlib.Numerals.{add-one}
 use native.Mathlib.Omega.{arith}
-use lib.ListN.{length, getD}
+use lib.ListN.{getD}
 use Rattle.rules.specs.Lists.{upTo}
 use Rattle.rules.specs.Book.{place}
 use Rattle.rules.proofs.Numbered.{getD-rows}
@@ -19,7 +19,7 @@ use Rattle.settle.proofs.keep_only.Tie as tie
 use Rattle.settle.proofs.keep_only.Reads as reads
 use Rattle.settle.proofs.keep_only.Lts as lts
 use Rattle.book.proofs.places_of.Reads as places-of-reads
-use Rattle.settle.proofs.has_power.Reads as has-power-reads
+use Rattle.book.proofs.named.Reads as named-reads
 use Rattle.settle.proofs.move_down.Reads as move-down-reads
 
 abbrev Inv-loop : tie.InvT-loop
@@ -38,8 +38,11 @@ places-of-requires c κs = tt
 loop-holds : tie.Need-loop-holds Inv-loop μ-loop
 loop-holds c = (c .before .places-of .ensures, (omega arith, keeping-none _ _ (c .before .before .before .before .pre)))
 
-has-power-requires : tie.Need-has-power-requires Inv-loop μ-loop
-has-power-requires c κs = omega arith
+cast-named : tie.Need-cast-named Inv-loop μ-loop
+cast-named c = record { fits = omega arith }
+
+named-requires : tie.Need-named-requires Inv-loop μ-loop
+named-requires c κs = tt
 
 mul-move-down : tie.Need-mul-move-down Inv-loop μ-loop
 mul-move-down c = omega arith
@@ -77,7 +80,7 @@ loop-again : tie.Need-loop-again Inv-loop μ-loop
 loop-again c = let l = c .before .before .before .loop in
     let s = c .before .before .before .before .before .before .before .before in
     let t = c .before .before .loop-test .taken in
-    let p = c .before .has-power .ensures in
+    let p = c .before .named .ensures in
     let a = at-place _ _ (l .inv .0) (l .k) (omega arith) in
     let b = at-place _ _ (l .inv .0) (l .k + 1) (omega arith) in (
       l .inv .0,
@@ -108,7 +111,8 @@ keep-only-spec =
     μ-loop
     places-of-requires
     loop-holds
-    has-power-requires
+    cast-named
+    named-requires
     mul-move-down
     array-copy-out-move-down
     add-move-down

@@ -2,7 +2,6 @@
 use mathlib.Core.Path.{_≡_}
 use Prim.Native.Nat.{_-_, _≤_}
 use native.Mathlib.Omega.{arith}
-use lib.ListN.{length-set}
 use Rattle.settle.proofs.Lowering.{Lowering, lowering-none, lowering-more, lowering-all}
 use Rattle.settle.proofs.move_down.Statement.{statement}
 use Rattle.settle.proofs.move_down.Tie as tie

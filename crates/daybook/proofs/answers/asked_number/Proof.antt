@@ -20,6 +20,9 @@ enum-told-4 c = search needs
 enum-told-5 : tie.Need-enum-told-5
 enum-told-5 c = search needs
 
+enum-told-6 : tie.Need-enum-told-6
+enum-told-6 c = search needs
+
 returns : tie.Need-returns
 unfolding askedNumber
 returns c = sym (ap askedNumber (c .enum-told .given .1))
@@ -40,6 +43,10 @@ returns-5 : tie.Need-returns-5
 unfolding askedNumber
 returns-5 c = sym (ap askedNumber (c .enum-told5 .given .1))
 
+returns-6 : tie.Need-returns-6
+unfolding askedNumber
+returns-6 c = sym (ap askedNumber (c .enum-told6 .given .1))
+
 pub asked-number-spec : {M : Type 1} → statement M
 asked-number-spec =
     tie.close
@@ -49,8 +56,10 @@ asked-number-spec =
     enum-told-3
     enum-told-4
     enum-told-5
+    enum-told-6
     returns
     returns-2
     returns-3
     returns-4
-    returns-5)
+    returns-5
+    returns-6)

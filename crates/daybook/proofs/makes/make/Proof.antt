@@ -1,21 +1,22 @@
 -- Each refusal in its order, then the relation made or no room for it.
 use mathlib.Core.Path.{_≡_, refl, sym, ap, _∙_}
-use mathlib.Core.Bool.{true, false}
+use mathlib.Core.Bool.{true, false, _&&_}
 use mathlib.Core.Option.{none}
 use Prim.Native.Nat.{_≤_}
 use native.Mathlib.Omega.{arith}
+use lib.Dec.{eqb}
 use borrow.Author.Needs.{needs}
 use borrow.Author.Tests.{not-true, not-false}
 use Rattle.rules.specs.Book.{dim, key, held, frameRight, rowsRight}
 use Rattle.rules.specs.Broken.{brokenAt, told}
-use Rattle.rules.specs.Calls.{makeNumber}
+use Rattle.rules.specs.Calls.{differs, makeNumber}
 use Rattle.rules.proofs.FrameRule.{framed}
 use Rattle.rules.proofs.Told.{none-right, some-wrong, told-eleven, untold-as, untold-none}
 use Rattle.book.proofs.Flags.{off, on}
 use Rattle.rows.specs.Answers.{rowsPlace}
 use Rattle.making.specs.Growth.{Makable, grown}
 use Rattle.daybook.specs.Answers.{madeNumber, madePlace}
-use Rattle.daybook.proofs.MakeCases.{make-frame, make-rows, make-first, make-second, make-held, make-need, make-whole}
+use Rattle.daybook.proofs.MakeCases.{make-frame, make-rows, make-first, make-second, make-held, make-need, make-differs, make-whole}
 use Rattle.daybook.proofs.makes.make.Statement.{statement}
 use Rattle.daybook.proofs.makes.make.Tie as tie
 
@@ -189,24 +190,32 @@ makable c =
       sources = on (c .before .needs-held .ensures) (c .if5 .left);
     }
 
--- ==== the relation
-add-requires : tie.Need-add-requires
-add-requires c κs = makable (c .before)
+-- ==== the entities that are counted already
+make-differs-requires : tie.Need-make-differs-requires
+make-differs-requires c κs = let f = makable (c .before) in record { frame = f .frame; rows = f .rows }
 
 same-length-7 : tie.Need-same-length-7
 same-length-7 c = search needs
 
 returns-7 : tie.Need-returns-7
-unfolding madeNumber madePlace grown
+unfolding madeNumber madePlace
 returns-7 c =
-    let k = c .before .before .before in
-    let m = k .before .before in
+    let m = c .before .before .before in
     let t = into m in
     let a = start-3 t .args in
     let f = makable m in
-    let w = k .add .ensures in
-    let g = make-whole (a .book .now) (a .d) (a .e) (f .frame) (f .rows) (f .first) (f .second) (f .new) (f .sources) false (sym (not-true _ (c .if6 .taken)) ∙ w .0) _ (w .1) in
+    let g = make-differs (a .book .now) (a .d) (a .e) (f .frame) (f .rows) (f .first) (f .second) (f .new) (f .sources) (sym (c .before .make-differs .ensures) ∙ c .if6 .taken) in
     (g .number-is, (untold (right t), g .words-are))
+
+abbrev beyond : tie.Else6 → tie.Else5
+beyond c = c .before .before .before
+
+alike : (c : tie.Else6) → let a = start-3 (into (beyond c)) .args in (eqb (a .e) 0 && differs (a .book .now) (a .d)) ≡ false
+alike c = sym (c .before .make-differs .ensures) ∙ c .if6 .left
+
+-- ==== the relation
+add-requires : tie.Need-add-requires
+add-requires c κs = makable (beyond (c .before))
 
 same-length-8 : tie.Need-same-length-8
 same-length-8 c = search needs
@@ -215,12 +224,29 @@ returns-8 : tie.Need-returns-8
 unfolding madeNumber madePlace grown
 returns-8 c =
     let k = c .before .before .before in
-    let m = k .before .before in
+    let n = k .before .before in
+    let m = beyond n in
     let t = into m in
     let a = start-3 t .args in
     let f = makable m in
     let w = k .add .ensures in
-    let g = make-whole (a .book .now) (a .d) (a .e) (f .frame) (f .rows) (f .first) (f .second) (f .new) (f .sources) true (sym (not-false _ (c .if6 .left)) ∙ w .0) _ (w .1) in
+    let g = make-whole (a .book .now) (a .d) (a .e) (f .frame) (f .rows) (f .first) (f .second) (f .new) (f .sources) (alike n) false (sym (not-true _ (c .if7 .taken)) ∙ w .0) _ (w .1) in
+    (g .number-is, (untold (right t), g .words-are))
+
+same-length-9 : tie.Need-same-length-9
+same-length-9 c = search needs
+
+returns-9 : tie.Need-returns-9
+unfolding madeNumber madePlace grown
+returns-9 c =
+    let k = c .before .before .before in
+    let n = k .before .before in
+    let m = beyond n in
+    let t = into m in
+    let a = start-3 t .args in
+    let f = makable m in
+    let w = k .add .ensures in
+    let g = make-whole (a .book .now) (a .d) (a .e) (f .frame) (f .rows) (f .first) (f .second) (f .new) (f .sources) (alike n) true (sym (not-false _ (c .if7 .left)) ∙ w .0) _ (w .1) in
     (g .number-is, (untold (right t), g .words-are))
 
 pub make-spec : {M : Type 1} → statement M
@@ -247,8 +273,11 @@ make-spec =
     needs-held-requires
     same-length-6
     returns-6
-    add-requires
+    make-differs-requires
     same-length-7
     returns-7
+    add-requires
     same-length-8
-    returns-8)
+    returns-8
+    same-length-9
+    returns-9)
