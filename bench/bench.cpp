@@ -120,6 +120,11 @@ static std::vector<uint32_t> book_with(const Named &m, const std::vector<std::pa
     return book;
 }
 
+// The checks of a whole book and nothing else: a drop of D->0 is refused right after them.
+static void check(std::vector<uint32_t> &book, size_t room) {
+    must(daybook_drop(book.data(), room, book[0] >> 30, 0, &key, &position) == DAYBOOK_CELLS_KEPT, "checks");
+}
+
 // The relations of a mesh that are not there after a load, by ascending key; on the fan without d->d, which is quadratic by its size.
 static std::vector<std::pair<unsigned, unsigned>> relations(const Named &m) {
     std::vector<std::pair<unsigned, unsigned>> out;
@@ -195,17 +200,16 @@ static void compare_kept(const Named &m, unsigned d, int times) {
     book[1 + d]++;
     const plain::Book plainly = loaded(m);
     auto nothing = [] { return 0; };
-    int64_t number = 0;
     size_t rows = 0;
     auto refused = both(nothing, [&](int) { must(daybook_make(book.data(), room, d, 0, &key, &position) == DAYBOOK_NUMBER_DIFFERS, "a count that differs"); },
-                        [&](int) { must(daybook_euler(book.data(), room, &number, &key, &position) == DAYBOOK_NEED_MISSING, "checks"); }, times);
+                        [&](int) { check(book, room); }, times);
     double built = best(nothing, [&](int) { rows = plain::build(plainly, d).rows(); }, times);
     must(rows + 1 == book[1 + d], "the two programs count different entities");
     line(m, name + " count", room, refused.first - refused.second, built);
 }
 
-// A drop from a book that holds all relations, of the words that they take; what is left of it without the checks, which are all that an Euler number takes,
-// beside a memmove of the same words and a memset of those that are freed; and the checks alone.
+// A drop from a book that holds all relations, of the words that they take; what is left of it without the checks, beside a memmove of the same
+// words and a memset of those that are freed; and the checks alone.
 static void compare_drop(const Named &m, unsigned d, unsigned e) {
     const std::string name = std::to_string(d) + "->" + std::to_string(e);
     const size_t room = book_with(m, relations(m))[4];
@@ -221,14 +225,12 @@ static void compare_drop(const Named &m, unsigned d, unsigned e) {
     std::vector<uint32_t> lent(room); // one for all, since a time depends on where the words lie
     auto copy = [&] { return std::copy(book.begin(), book.end(), lent.begin()); };
     auto nothing = [] { return 0; };
-    int64_t number = 0;
     auto drop = [&](auto) { must(daybook_drop(lent.data(), room, d, e, &key, &position) == 0, "drop"); };
-    auto check = [&](auto) { must(daybook_euler(lent.data(), room, &number, &key, &position) == 0, "Euler number"); };
     auto move = [&](auto) {
         std::memmove(&lent[from], lent.data() + from + size, (room - from - size) * sizeof lent[0]);
         std::memset(&lent[room - size], 0, size * sizeof lent[0]);
     };
-    auto ours = both(copy, drop, check, 9);
+    auto ours = both(copy, drop, [&](auto) { check(lent, room); }, 9);
     line(m, "drop " + name, room, ours.first, best([&] { return plainly; }, [&](plain::Book &b) { must(plain::drop(b, d, e), "plain drop"); }, 9));
     line(m, "checks", room, ours.second, best(nothing, [&](int) { must(plain::right(plainly), "plain checks"); }, 9));
     line(m, "move " + name, room, ours.first - ours.second, best(copy, move, 9));
@@ -236,6 +238,25 @@ static void compare_drop(const Named &m, unsigned d, unsigned e) {
     const auto dropped = after(drop), moved = after(move);
     must(plain::drop(plainly, d, e) && same(dropped, plainly), "the two programs hold different relations after a drop");
     must(std::equal(dropped.begin() + 5, dropped.end(), moved.begin() + 5), "a drop is no memmove and memset");
+}
+
+// The Euler number of a book that holds these relations, of the words that they take; and on a short one, where it can be told from the checks, what it takes
+// beyond them, beside the plain program's marks.
+static void compare_euler(const Named &m, const std::string &what, const std::vector<std::pair<unsigned, unsigned>> &held, bool is_short) {
+    const size_t room = book_with(m, held)[4];
+    auto book = book_with(m, held, room);
+    plain::Book plainly = loaded(m);
+    for (auto r : held) must(plain::ask(plainly, r.first, r.second), "plain ask");
+    int64_t ours = 0, theirs = 0, used = 0;
+    const int times = is_short ? 61 : 15;
+    auto nothing = [] { return 0; };
+    auto number = [&](int) { must(daybook_euler(book.data(), room, &ours, &key, &position) == 0, "Euler number"); };
+    auto called = both(nothing, number, [&](int) { check(book, room); }, times);
+    line(m, what, room, called.first, best(nothing, [&](int) { must(plain::euler(plainly, theirs), "plain Euler number"); }, times));
+    must(ours == theirs, "the two programs give different Euler numbers");
+    if (!is_short) return;
+    line(m, "its marks", room, called.first - called.second, best(nothing, [&](int) { used = plain::used_vertices(plainly); }, times));
+    must(used > 0 && used <= m.points, "no vertex, or more than there are");
 }
 
 // Load and write of a mesh, in a book of the words that its cells take.
@@ -379,6 +400,13 @@ int main() {
     // the first relation and the last one dropped from a book that holds all sixteen
     compare_drop(meshes[1], 0, 0);
     compare_drop(meshes[1], 3, 3);
+    // Euler numbers, on a book that holds all relations and on one that holds just what they need
+    for (const Named &m : meshes) {
+        compare_euler(m, "Euler all", relations(m), false);
+        std::vector<std::pair<unsigned, unsigned>> needed;
+        for (unsigned d = 1; d < m.dim; d++) needed.push_back({d, 0});
+        compare_euler(m, "Euler", needed, true);
+    }
     // phase closures, on a book that holds just what they need
     for (const Named &m : meshes) compare_closures(m);
     // from a sixteenth of the size to the whole

@@ -35,6 +35,13 @@ def with_repeats(rng, mesh):
     return D, points, cells
 
 
+def all_used(mesh):
+    """The mesh without the vertices that no cell uses; the others are numbered anew."""
+    D, _, cells = mesh
+    new = {v: k for k, v in enumerate(sorted({v for cell in cells for v in cell}))}
+    return D, len(new), [[new[v] for v in cell] for cell in cells]
+
+
 def small_mesh(rng):
     return random_mesh(rng, rng.choice((1, 2, 2, 3, 3)), rng.choice((0, 1, 3, 4, 5, 6, 8, 12)), rng.choice((0, 1, 1, 2, 3, 5, 8, 14)))
 
@@ -42,6 +49,11 @@ def small_mesh(rng):
 def fan(points):
     """Triangles around vertex 0."""
     return 2, points, [[0, k, k + 1] for k in range(1, points - 1)]
+
+
+def strip(D, points, low):
+    """4,096 cells, each of D + 1 vertices one after another; the first begins at vertex low, and each shares a facet with the next."""
+    return D, points, [list(range(low + c, low + c + D + 1)) for c in range(4096)]
 
 
 def pages(points):

@@ -146,6 +146,10 @@ class Frame:
         first = self.places[d, e] + self.counts[d] + 1
         return [self.book[first + a:first + b] for a, b in zip(offsets, offsets[1:])]
 
+    def used_vertices(self):
+        """The vertices that lie in at least one cell, of a book whose rows are right."""
+        return {v for cell in self.rows(self.D, 0) for v in cell}
+
     def rows_right(self):
         for d, e in sorted(self.held):
             offsets = self.offsets(d, e)
@@ -425,13 +429,14 @@ def write(book, out):
 
 
 def euler(book):
-    """(number, Euler number, place)"""
+    """(number, Euler number, place); here N_0 is the number of vertices that lie in at least one cell"""
     frame, number, place = checked(book)
     if number:
         return number, 0, place
     if any((d, 0) not in frame.held for d in range(1, frame.D)):
         return 15, 0, None
-    return 0, sum((-1) ** d * frame.counts[d] for d in range(frame.D + 1)), None
+    counts = {**frame.counts, 0: len(frame.used_vertices())}
+    return 0, sum((-1) ** d * counts[d] for d in range(frame.D + 1)), None
 
 
 def held_count(book):

@@ -5,11 +5,12 @@ lent word, byte and float (by its bits), and every guard word must agree.
 
 --full adds meshes of the full size. It prints, for each call, how often each number was given, how often each
 answer of a list of asks and each closure of a face was written, how often random calls met each kind of place
-where a book is broken and each answer that comes of dropping relations, and the seed. From 20,000 calls on each of
-these has to be met, from 200,000 on a hundred times.
+where a book is broken, each answer that comes of dropping relations and each kind of mesh that an Euler number was
+given for, and the seed. From 20,000 calls on each of these has to be met, from 200,000 on a hundred times.
 """
 
 import argparse
+import itertools
 import os
 import platform
 import random
@@ -32,6 +33,9 @@ LOW = 0xFFFFFFFF00000000
 # What comes of dropping relations: each answer of drop, 25 of make, ask and a list of asks, and a book whose words are as before once
 # the relation is made, or asked for, again.
 ROOM = ("drop 0", "drop 10", "drop 11", "drop 12", "drop 16", "drop 24", "make 25", "ask 25", "its answers 25", "made again", "asked again")
+# What an Euler number was given for, no cells at all left aside: D, whether calls alone have written the book since a load, and whether each
+# vertex lies in a cell.
+POINTS = tuple("D = %d, %s, %s" % kind for kind in itertools.product((1, 2, 3), ("reached", "not reached"), ("all used", "some unused")))
 OUTSIDE = (-32769, 32768, 65535, 65537, 98304, 131072, -65536, 2 ** 31 - 1, -2 ** 31)  # what no count may be
 ODD_FLOATS = [struct.pack("<Q", bits) for bits in (0, 1 << 63, 0x7FF8 << 48, 0xFFF0 << 48 | 1)]  # 0.0, -0.0 and two NaNs
 
@@ -114,9 +118,10 @@ class Runs:
         self.count_kinds()
 
     def count_kinds(self):
-        """Counts from 0 how often each kind of place is met, by the calls that check the whole book, by row and by find; and what comes of drops."""
+        """Counts from 0 how often each kind of place is met, by the calls that check the whole book, by row and by find; what comes of drops; and what an
+        Euler number is given for."""
         self.kinds = {"places": dict.fromkeys(rules.KINDS, 0), "row's": dict.fromkeys(rules.OWN_KINDS, 0), "find's": dict.fromkeys(rules.OWN_KINDS, 0),
-                      "room": dict.fromkeys(ROOM, 0)}
+                      "room": dict.fromkeys(ROOM, 0), "points": dict.fromkeys(POINTS, 0)}
 
     def fail(self, what, got, wanted):
         print("DISAGREE: %s: the library says %s, the reference %s" % (what, got, wanted))
@@ -208,6 +213,11 @@ class Runs:
         self.past = self.book
         number, value, place = rules.euler(self.book)
         self.check("euler", b"E", number, OUT if number else value % 2 ** 64, OUT, place=place)
+        frame = rules.Frame.of(self.book)
+        if number == 0 and frame.counts[frame.D] > 0:
+            all_used = len(frame.used_vertices()) == frame.counts[0]
+            kind = frame.D, "not reached" if self.file is None else "reached", "all used" if all_used else "some unused"
+            self.kinds["points"]["D = %d, %s, %s" % kind] += 1
         return number
 
     def held_count(self):
@@ -434,6 +444,24 @@ class Runs:
         for _ in range(8):
             self.some_closures()
 
+    def points_run(self):
+        """The Euler number of a mesh as it is, without its unused points and with forty more, which is the same; and of lying books, mostly of such as hold
+        what it needs."""
+        rng, given = self.rng, set()
+        D, points, cells = mesh = meshes.random_mesh(rng, rng.choice((1, 2, 3)), rng.choice((4, 6, 8, 12)), rng.choice((1, 2, 5, 14)))
+        for one in (mesh, meshes.all_used(mesh), (D, points + 40, cells)):
+            self.use([7] * 900)
+            self.load(rules.file_bytes(*one))
+            for d in range(1, D):
+                self.relation("ask", d, 0)
+            self.euler()
+            given.add(rules.euler(self.book))
+        self.demand("Euler numbers of one mesh", [number for number, _, _ in given], [0])
+        for _ in range(5):
+            books = [meshes.lying_book(rng, 3) for _ in range(3)]
+            self.use(next((book for book in books if rules.euler(book)[0] == 0), books[0]))
+            self.euler()
+
     def broken_run(self):
         """Faults in a right book, true or lying: calls that check the whole book, and rows and searches at the offsets that are broken, or anywhere."""
         rng = self.rng
@@ -483,6 +511,7 @@ class Runs:
                         self.find(d, e, 0, j)
             self.euler()
             self.held_count()
+        self.points_of_full_size()
         self.lists_of_full_size()
         self.closures_of_full_size()
         self.repeats_of_full_size()
@@ -491,6 +520,14 @@ class Runs:
             more = bytearray(many)
             more[at] |= 0x3F if at == 0 else 0xFF
             self.load(bytes(more))
+
+    def points_of_full_size(self):
+        """4,096 cells among 8,192 points. A strip has 1, be its points the first or the last: cell after cell can be taken off, and one is left.
+        4,096 intervals that use every point are as many pieces."""
+        for D in (1, 2, 3):
+            for low in (0, 4096 - D):
+                self.euler_is(1, rules.file_bytes(*meshes.strip(D, 8192, low)))
+        self.euler_is(4096, rules.file_bytes(1, 8192, [[2 * c, 2 * c + 1] for c in range(4096)]))
 
     def lists_of_full_size(self):
         """All relations of two meshes of bench/ by one list: with room for all, where drops and places are then tried, and with room for some."""
@@ -579,7 +616,8 @@ class Runs:
             out.append(self.book[start : start + count])
 
     def examples(self):
-        """Examples by hand, whose numbers stand here as they were worked out: 10 and 11 of the paper, cells twice, searches, lists of asks, phase closures, and drops."""
+        """Examples by hand, whose numbers stand here as they were worked out: 10 and 11 of the paper, cells twice, searches, lists of asks, phase closures, drops,
+        and unused points."""
         t = rules.file_bytes(2, 4, [[0, 1, 3], [1, 2, 3]])
         for room, number in ((54, 0), (53, 13)):
             self.use([7] * room)
@@ -610,6 +648,7 @@ class Runs:
         self.faces_dropped()
         self.edges_differ()
         self.faces_differ()
+        self.unused_points()
 
     def cells_twice(self, t):
         """A cell that repeats an earlier one, in files and in books; and an edge in three triangles, which is allowed."""
@@ -840,6 +879,41 @@ class Runs:
                 self.use(book)
                 self.demand("ask of %d→%d with %s" % (d, e, head), self.relation("ask", d, e), number)
 
+    def euler_is(self, value, data):
+        """The file's Euler number, in a book that has room for what it needs."""
+        D, cells = data[0] >> 6, rules.Bits(data).field(16, 13)
+        self.use([7] * (8 + 39 * cells))
+        self.demand("a file of %d cells" % cells, self.load(data), 0)
+        for d in range(1, D):
+            self.demand("%d→0" % d, self.relation("ask", d, 0), 0)
+        self.demand("the Euler number of %s" % data[:64].hex(), (self.euler(), rules.euler(self.book)[1]), (0, value))
+
+    def unused_points(self):
+        """Points that no cell uses, behind those that cells use, before them or between: T, an interval, a tetrahedron, no cells, and the dam, which has two holes.
+        Then T among 44 points in books whose 1→0 and 0→2 name other vertices than its cells do."""
+        t = [[0, 1, 3], [1, 2, 3]]
+        for points, cells in ((4, t), (44, t), (44, [[40, 41, 43], [41, 42, 43]]), (44, [[0, 20, 43], [20, 30, 43]])):
+            self.euler_is(1, rules.file_bytes(2, points, cells))
+        for points in (4, 44):
+            self.euler_is(1, rules.file_bytes(1, points, [[3, 1]]))
+            self.euler_is(1, rules.file_bytes(3, points, [[3, 1, 0, 2]]))
+        for D in (1, 2, 3):
+            self.euler_is(0, rules.file_bytes(D, 40, []))
+        for name in ("dam.day", "scan.day"):
+            with open(os.path.join(TOP, "examples", name), "rb") as file:
+                self.euler_is(-1, file.read())
+        self.use([7] * 200)
+        self.load(rules.file_bytes(2, 44, t))
+        self.demand("1→0 and 0→2", [self.relation("ask", *pair) for pair in ((1, 0), (0, 2))], [0, 0])
+        book, frame = list(self.book), rules.Frame.of(self.book)
+        edges, cells = [rules.row(book, d, 0, 0)[1] for d in (1, 2)]
+        book[edges:edges + 2] = [4, 5]
+        book[frame.places[0, 2]:frame.places[0, 2] + 45] = [0] * 41 + [1, 3, 4, 6]
+        for last, value in ((3, 1), (43, 2)):
+            book[cells + 5] = last
+            self.use(book)
+            self.demand("T, its last vertex %d" % last, (self.euler(), rules.euler(book)[1]), (0, value))
+
     def written(self, counts, faces, steps, masked):
         """Phase closures that write these closures, steps in 65,536ths, and masked bytes."""
         given = self.closures(counts, *self.unwritten(len(faces), len(steps), len(masked)))
@@ -923,13 +997,15 @@ class Runs:
         while self.left > 0:
             self.sequences += 1
             way = self.rng.random()
-            if way < 0.4:
+            if way < 0.38:
                 self.true_run()
-            elif way < 0.65:
+            elif way < 0.62:
                 self.strange_run()
-            elif way < 0.77:
+            elif way < 0.73:
                 self.phase_run()
-            elif way < 0.88:
+            elif way < 0.79:
+                self.points_run()
+            elif way < 0.89:
                 self.room_run()
             else:
                 self.broken_run()

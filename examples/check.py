@@ -19,7 +19,7 @@ import phases  # noqa: E402
 import reference as rules  # noqa: E402
 import shapes  # noqa: E402
 
-FILES = ("t.day", "t.xy", "dam.day", "dam.xy", "dam.counts", "stack.day", "stack.xy", "broken.book")
+FILES = ("t.day", "t.xy", "dam.day", "dam.xy", "dam.counts", "scan.day", "scan.xy", "stack.day", "stack.xy", "broken.book")
 COLOURS = {"minus": -1, "cells": 0, "plus": 1, "masked": 2}
 T = bytes.fromhex("80040010 0000004006001001000c")
 TETRAHEDRON = bytes.fromhex("c0040008 00180040000020")
@@ -163,7 +163,7 @@ def broken():
 
 
 def incidence(day):
-    """N_0 to N_D, and how many edges touch one cell, two, and more, by the separate program."""
+    """N_0 to N_D, the Euler number, and how many edges touch one cell, two, and more, by the separate program."""
     book = [0] * (1 << 18)
     demand("load", rules.load(contents(day), book), (0, None))
     D = book[0] >> 30
@@ -171,7 +171,7 @@ def incidence(day):
     frame = rules.Frame.of(book)
     touched = [len(row) for row in frame.rows(1, D)]
     kinds = {"one": touched.count(1), "two": touched.count(2), "more": sum(n > 2 for n in touched)}
-    return [frame.counts[d] for d in range(D + 1)], kinds
+    return [frame.counts[d] for d in range(D + 1)], rules.euler(book), kinds
 
 
 def closures(day, counts):
@@ -185,6 +185,12 @@ def closures(day, counts):
     return faces, masked
 
 
+def scan():
+    """The dam's file but for N_0, which is forty greater."""
+    D, points, cells = rules.read_file(contents(HERE, "dam.day"))[2]
+    demand("the scan is the dam and forty points", contents(HERE, "scan.day"), rules.file_bytes(D, points + 40, cells))
+
+
 def parts(svg):
     """The picture's texts, its rings by their class, and its paths by their names."""
     page = minidom.parse(svg)
@@ -194,10 +200,10 @@ def parts(svg):
 
 
 def pictures(folder):
-    for name, euler in (("t", 1), ("dam", -1), ("stack", 1)):
+    for name, euler, alone in (("t", 1, 0), ("dam", -1, 0), ("scan", -1, 40), ("stack", 1, 0)):
         day = os.path.join(HERE, name + ".day")
-        counts, kinds = incidence(day)
-        demand("Euler number of " + name, sum((-1) ** d * n for d, n in enumerate(counts)), euler)
+        counts, given, kinds = incidence(day)
+        demand("Euler number of " + name, given, (0, euler, None))
         for with_xy in (True, False):
             svg = os.path.join(folder, name + ".svg")
             words = ["--xy", os.path.join(HERE, name + ".xy")] if with_xy else []
@@ -206,6 +212,7 @@ def pictures(folder):
             texts, rings, paths = parts(svg)
             demand("edges of %s by colour" % name, {kind: paths[kind].count("M") for kind in kinds}, kinds)
             demand("%s without counts has no colours of closures" % name, [rings, set(paths) & {"minus", "plus", "masked"}], [[], set()])
+            demand("points of %s that no cell uses" % name, paths["alone"].count("M"), alone)
             D = len(counts) - 1
             if D == 2:
                 demand("cells of " + name, paths["cells"].count("Z"), counts[2])
@@ -329,6 +336,7 @@ def main():
     with tempfile.TemporaryDirectory() as folder:
         made(folder)
         broken()
+        scan()
         pictures(folder)
         closure_pictures(folder)
         refusals(folder)

@@ -61,7 +61,7 @@ def broken_book():
 
 
 def make(folder):
-    for shape in (shapes.t, shapes.dam, shapes.stack):
+    for shape in (shapes.t, shapes.dam, shapes.scan, shapes.stack):
         mesh, places = shape()
         path = os.path.join(folder, shape.__name__)
         write(path + ".day", rules.file_bytes(*mesh))

@@ -109,6 +109,12 @@ def dam():
     return (2, len(places), cells), places
 
 
+def scan():
+    """The dam and forty points more in a row below its foot, which no triangle uses."""
+    (D, points, cells), places = dam()
+    return (D, points + 40, cells), places + [(280 * k - 5460, -1000) for k in range(40)]
+
+
 def stack():
     """Two scans of a rock slope, one above the other: each prism between two triangles is cut into three tetrahedra, by
     the diagonals that rise from the lower number to the higher, so that prisms side by side are cut alike. Seen aslant."""

@@ -48,7 +48,7 @@
  *
  * STACK, measured by painting it. daybook_make, daybook_ask and daybook_ask_list need up to 512 KiB
  * (417 KiB were measured), daybook_load up to 128 KiB (113), daybook_drop, daybook_write, daybook_euler and
- * daybook_closures up to 64 KiB (49), the other calls less than 16 KiB (1).
+ * daybook_closures up to 64 KiB (57), the other calls less than 16 KiB (1).
  *
  * OWNERSHIP. Nothing is allocated, nothing is global, nothing is kept after a call returns: the
  * book, the file and the buffers stay yours. Calls on different books may run side by side in
@@ -189,8 +189,9 @@ uint32_t daybook_find(const uint32_t *book, size_t book_len, uint32_t d, uint32_
 uint32_t daybook_write(const uint32_t *book, size_t book_len, uint8_t *bytes, size_t bytes_len, size_t *length, uint32_t *key, size_t *position);
 
 /* Writes the Euler number to *number where accepted: N_0 - N_1, N_0 - N_1 + N_2 or
- * N_0 - N_1 + N_2 - N_3 for D = 1, 2 or 3. Needs d -> 0 for every 0 < d < D.
- * Refusals: 10, 11 with *key and *position, 15. */
+ * N_0 - N_1 + N_2 - N_3 for D = 1, 2 or 3. In this number, and nowhere else, N_0 is the number of vertices that
+ * lie in at least one cell, so that points nobody uses do not count; document 01 had the file's N_0 here too.
+ * Needs d -> 0 for every 0 < d < D. Refusals: 10, 11 with *key and *position, 15. */
 uint32_t daybook_euler(const uint32_t *book, size_t book_len, int64_t *number, uint32_t *key, size_t *position);
 
 /* Writes the number of relations held to *count where accepted. Refusal: 10. */

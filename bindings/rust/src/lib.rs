@@ -378,7 +378,8 @@ pub fn write(book: &[u32], bytes: &mut [u8]) -> Result<usize, Refusal> {
     place.answer(book, number, length)
 }
 
-/// The Euler number; d→0 has to be held for every 0 < d < D.
+/// The Euler number; d→0 has to be held for every 0 < d < D. In it N_0 is the number of vertices that lie in at least one cell,
+/// so that points nobody uses do not count.
 pub fn euler(book: &[u32]) -> Result<i64, Refusal> {
     let (mut value, mut place) = (0, Place::default());
     // SAFETY: as in `load`.

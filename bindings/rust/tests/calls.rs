@@ -33,6 +33,22 @@ fn all_relations_of_t_take_119_words() {
 }
 
 #[test]
+fn points_nobody_uses_do_not_count() {
+    let euler = |file: &[u8]| -> Result<i64, Refusal> {
+        let mut book = [7; 100];
+        daybook::load(file, &mut book)?;
+        (1..u32::from(file[0] >> 6)).try_for_each(|d| daybook::ask(&mut book, d, 0))?;
+        daybook::euler(&book)
+    };
+    let mut t = T;
+    t[1] = 44; // N_0, which is 4 in T
+    assert_eq!(euler(&t), Ok(1));
+    for dimension in 1..=3 {
+        assert_eq!(euler(&[dimension << 6, 40, 0, 0]), Ok(0)); // forty points and no cells
+    }
+}
+
+#[test]
 fn a_list_is_one_ask_after_another() {
     let mut book = loaded(54);
     let mut answers = [Err(Refusal::NotHeld); 3];

@@ -1,5 +1,6 @@
 pub mod Kept
 pub mod DemandThree
+pub mod Euler
 pub mod Planned
 pub mod RoundTrip
 pub mod Lying

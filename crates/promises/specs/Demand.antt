@@ -9,9 +9,9 @@ use lib.IntN.{ℤ}
 use Rattle.rules.specs.Lists.{anyOf, allOf, has, inside, sorted}
 use Rattle.rules.specs.File.{fileDim, fileVertices, cellsInFile}
 use Rattle.rules.specs.Book.{key, named, held, count, rowOf, rowsOf, frameRight, rowsRight, needs}
-use Rattle.rules.specs.Calls.{loadNumber, loadWords, makeNumber, makeWords, askNumber, askWords, answersOf, wordsOf, listNumber, listAnswers, listWords, rowNumber, rowPart, findNumber, findFound, written, writeNumber, eulerNumber, heldNumber, dropNumber, dropWords}
+use Rattle.rules.specs.Calls.{loadNumber, loadWords, makeNumber, makeWords, askNumber, askWords, answersOf, wordsOf, listNumber, listAnswers, listWords, rowNumber, rowPart, findNumber, findFound, written, writeNumber, eulerNumber, alternating, eulerOf, heldNumber, dropNumber, dropWords}
 use Rattle.rules.specs.Closures.{closeNumber}
-use Rattle.rules.specs.Truth.{Mesh, meshOf, number, incident, trueRows, trueBook}
+use Rattle.rules.specs.Truth.{Mesh, meshOf, number, incident, trueRows, trueEuler, trueBook}
 use Rattle.rules.specs.Sequence.{State, askList, after, afterAll, asksOf, Reached}
 use Rattle.promises.specs.Plan.{wordsFor, makePlan, askPlan, answersPlan, rowPlan, findPlan, writePlan, eulerPlan, closePlan, dropPlan}
 
@@ -47,6 +47,20 @@ GivenOut = (m : Mesh) (ws : List ℕ) → Reached m ws → (d e i j : ℕ) → h
 -- Find says yes exactly where (e, j) is truly incident to (d, i)
 abbrev pub FoundTrue : Type 0
 FoundTrue = (m : Mesh) (ws : List ℕ) → Reached m ws → (d e i j : ℕ) → findNumber ws d e i j ≡ 0 → findFound ws d e i j ≡ incident m d e i j
+
+-- the Euler number is the mesh's, whatever else is held and whatever calls led there
+abbrev pub EulerTrue : Type 0
+EulerTrue = (m : Mesh) (ws : List ℕ) → Reached m ws → eulerNumber ws ≡ 0 → eulerOf ws ≡ trueEuler m
+
+-- points nobody uses change nothing: meshes with the same D and the same cells, whatever their N_0, have one Euler number
+abbrev pub UnusedPoints : Type 0
+UnusedPoints = (m n : Mesh) (ws vs : List ℕ) → Reached m ws → Reached n vs → m .dims ≡ n .dims → m .cells ≡ n .cells
+    → eulerNumber ws ≡ 0 → eulerNumber vs ≡ 0 → eulerOf ws ≡ eulerOf vs
+
+-- where every point lies in some cell, it is what document 01 has, with the file's N_0
+abbrev pub AllUsed : Type 0
+AllUsed = (m : Mesh) (ws : List ℕ) → Reached m ws → ((v : ℕ) → v < m .vertices → anyOf (has v) (m .cells) ≡ true)
+    → eulerOf ws ≡ alternating (m .dims) (count ws 0) (count ws)
 
 -- the words of the book depend only on its length, that mesh and which relations are held
 abbrev pub Determined : Type 0

@@ -1,3 +1,5 @@
+pub mod CellsPart
+pub mod Marks
 pub mod Writing
 pub mod RowCases
 pub mod NumberCases

@@ -10,10 +10,11 @@ use lib.ListN.{length, length-append}
 use lib.Dec.{ltb}
 use borrow.Author.Tests.{le-leb, lt-leb}
 use Rattle.rules.specs.Lists.{upTo, keep}
-use Rattle.rules.specs.Book.{dim, count, key, held, frameRight, rowsRight}
-use Rattle.rules.specs.Calls.{firstBroken, eulerRules, eulerNumber, heldRules, heldNumber}
+use Rattle.rules.specs.Book.{dim, count, key, held, rowsOf, frameRight, rowsRight}
+use Rattle.rules.specs.Calls.{firstBroken, eulerRules, eulerNumber, usedVertices, heldRules, heldNumber}
 use Rattle.rules.proofs.FrameRule.{limit, framed, count-limit}
 use Rattle.rules.proofs.First.{keep-last}
+use Rattle.rules.proofs.Members.{members-most}
 use Rattle.reading.specs.Parts.{evens, odds}
 
 -- d→0 is missing, where d < D
@@ -50,11 +51,11 @@ module _ (ws : List ℕ) where
   held-0 f = rw f
 
   -- the sums, without and with their second part
-  pub evens-one : dim ws < 2 → count ws 0 ≡ evens ws
+  pub evens-one : dim ws < 2 → length (usedVertices ws) ≡ evens ws
   unfolding evens
-  evens-one l = rw (lt-leb 2 (dim ws) l) (sym (add-zero (count ws 0)))
+  evens-one l = rw (lt-leb 2 (dim ws) l) (sym (add-zero (length (usedVertices ws))))
 
-  pub evens-two : 2 ≤ dim ws → count ws 0 + count ws 2 ≡ evens ws
+  pub evens-two : 2 ≤ dim ws → length (usedVertices ws) + count ws 2 ≡ evens ws
   unfolding evens
   evens-two l = rw (le-leb 2 (dim ws) l)
 
@@ -67,9 +68,13 @@ module _ (ws : List ℕ) where
   odds-two l = rw (le-leb 3 (dim ws) l)
 
   module _ (f : frameRight ws ≡ true) where
-    pub evens-low : 2 ≤ dim ws → count ws 0 + count ws 2 ≤ 24576
+    used-low : length (usedVertices ws) ≤ 8192
+    unfolding usedVertices limit
+    used-low = omega (arith, members-most (count ws 0) (rowsOf ws (key (dim ws) 0)), count-limit ws (framed ws f) 0 (omega arith))
+
+    pub evens-low : 2 ≤ dim ws → length (usedVertices ws) + count ws 2 ≤ 24576
     unfolding limit
-    evens-low l = omega (arith, count-limit ws (framed ws f) 0 (omega arith), count-limit ws (framed ws f) 2 l)
+    evens-low l = omega (arith, used-low, count-limit ws (framed ws f) 2 l)
 
     pub odds-low : 3 ≤ dim ws → count ws 1 + count ws 3 ≤ 28672
     unfolding limit

@@ -1,60 +1,42 @@
--- The file of a right book: its cells stand one after another behind the offsets of D→0.
-use mathlib.Core.Path.{_≡_, refl, sym, ap, _∙_}
+-- The file of a right book, from its first word and its cells.
+use mathlib.Core.Path.{_≡_, refl, sym, _∙_}
 use mathlib.Core.Bool.{true, false, cond}
 use mathlib.Core.List.{List, _++_}
-use Prim.Native.Nat.{ℕ, suc, _+_, _-_, _/_, _≤_, _<_}
+use Prim.Native.Nat.{ℕ, suc, _+_, _-_, _≤_, _<_}
 use native.Mathlib.Omega.{arith}
-use lib.ListN.{length, getD, take, drop}
+use lib.ListN.{length, getD, drop}
 use lib.Dec.{leb}
 use borrow.Author.Tests.{ne-eqb, lt-ltb, le-ltb, lt-leb, le-leb}
 use Rattle.rules.specs.Lists.{joined}
 use Rattle.rules.specs.File.{headDim, headCells, headLength, putFile}
-use Rattle.rules.specs.Book.{dim, count, key, place, total, rowsOf, frameRight, rowsRight}
+use Rattle.rules.specs.Book.{dim, count, key, rowsOf, frameRight, rowsRight}
 use Rattle.rules.specs.Calls.{firstBroken, written, writeLength, writeRules, writeNumber, writeBytes}
 use Rattle.rules.proofs.Bits.{write-length}
-use Rattle.rules.proofs.FrameRule.{Framed, framed, count-top, room}
-use Rattle.rules.proofs.Needs.{key-div}
-use Rattle.rules.proofs.RightBook.{joined-all}
+use Rattle.rules.proofs.FrameRule.{framed, count-top}
 use Rattle.reading.specs.Parts.{FilePut}
 
-module _ (ws : List ℕ) (g : frameRight ws ≡ true) (r : rowsRight ws ≡ true) where
-  f : Framed ws
-  f = framed ws g
-
-  abbrev k : ℕ
-  k = key (dim ws) 0
-
-  over : k / 4 ≡ dim ws
-  over = key-div (dim ws) 0 (omega arith)
-
-  -- the cells lie within the book
-  pub cells-inside : place ws k + count ws (dim ws) + 1 + total ws k ≤ length ws
-  cells-inside = let e = room ws f k (f .top) in omega (arith, f .fits, ap (count ws) over)
-
-  cells-are : joined (rowsOf ws k) ≡ take (total ws k) (drop (place ws k + count ws (dim ws) + 1) ws)
-  cells-are = rw over at (joined-all ws f r k (f .top))
-
+module _ (ws : List ℕ) (g : frameRight ws ≡ true) where
   head-dim : headDim (getD ws 0 0) ≡ dim ws
   unfolding headDim dim
   head-dim = refl
 
   head-cells : headCells (getD ws 0 0) ≡ count ws (dim ws)
   unfolding headCells
-  head-cells = sym (count-top ws (f .low))
+  head-cells = sym (count-top ws (framed ws g .low))
 
   head-length : headLength (getD ws 0 0) ≡ writeLength ws
   unfolding headLength
   head-length = rw (head-dim, head-cells) (sym (write-length ws))
 
   pub file-put : (bs : List ℕ) (n : ℕ) (cs : List ℕ) → n ≡ headLength (getD ws 0 0)
-      → cs ≡ putFile (getD ws 0 0) (take (total ws k) (drop (place ws k + count ws (dim ws) + 1) ws)) bs → FilePut ws bs n cs
+      → cs ≡ putFile (getD ws 0 0) (joined (rowsOf ws (key (dim ws) 0))) bs → FilePut ws bs n cs
   file-put bs n cs a b = record {
     size = a ∙ head-length;
     bytes = b ∙ same;
   }
     where
-      same : putFile (getD ws 0 0) (take (total ws (key (dim ws) 0)) (drop (place ws (key (dim ws) 0) + count ws (dim ws) + 1) ws)) bs ≡ cond (leb (writeLength ws) (length bs)) (written ws ++ drop (writeLength ws) bs) bs
-      same = unfold putFile in rw (head-length, head-dim, head-cells, ← cells-are) (unfold written in refl)
+      same : putFile (getD ws 0 0) (joined (rowsOf ws (key (dim ws) 0))) bs ≡ cond (leb (writeLength ws) (length bs)) (written ws ++ drop (writeLength ws) bs) bs
+      same = unfold putFile in rw (head-length, head-dim, head-cells) (unfold written in refl)
 
 -- what a call of Write has to give: the number, the length where accepted, and the bytes
 pub record Puts (ws bs : List ℕ) (number length : ℕ) (cs : List ℕ) : Type 0 where

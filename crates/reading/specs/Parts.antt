@@ -1,4 +1,4 @@
--- What Row hands back and what Write puts, as parts of what is lent.
+-- What Row hands back and what Write puts, as parts of what is lent; and the Euler number's two sums.
 use mathlib.Core.Path.{_≡_}
 use mathlib.Core.Bool.{cond}
 use mathlib.Core.List.{List, _++_}
@@ -7,7 +7,7 @@ use lib.ListN.{length, drop}
 use lib.Dec.{leb}
 use denote.Ref.{RefT, ptr, now}
 use Rattle.rules.specs.Book.{dim, count, key, rowStart}
-use Rattle.rules.specs.Calls.{rowNumber, rowPart, written, writeLength}
+use Rattle.rules.specs.Calls.{rowNumber, rowPart, written, writeLength, usedVertices}
 
 -- the part that Row hands back, in the book's own memory; where accepted, at the row's place, four bytes to a word
 pub record RowOf (book row : RefT (List ℕ)) (d e i : ℕ) : Type 0 where
@@ -20,9 +20,9 @@ pub record FilePut (ws bs : List ℕ) (n : ℕ) (cs : List ℕ) : Type 0 where
   pub size : n ≡ writeLength ws
   pub bytes : cs ≡ cond (leb (writeLength ws) (length bs)) (written ws ++ drop (writeLength ws) bs) bs
 
--- N_0, and N_2 where D is 2 or more
+-- how many vertices lie in at least one cell, and N_2 where D is 2 or more
 unfoldable pub evens : List ℕ → ℕ
-evens ws = count ws 0 + cond (leb 2 (dim ws)) (count ws 2) 0
+evens ws = length (usedVertices ws) + cond (leb 2 (dim ws)) (count ws 2) 0
 
 -- N_1, and N_3 where D is 3
 unfoldable pub odds : List ℕ → ℕ

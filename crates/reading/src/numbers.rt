@@ -1,13 +1,14 @@
 // The Euler number and the held count.
 use crate::answers::Counted;
 use crate::answers::EulerNumber;
+use crate::cells::used_vertices;
 use rows::Rows;
 ghost use mathlib.Core.Path.{_≡_};
 ghost use mathlib.Core.Bool.{true, not, _&&_};
 ghost use Prim.Native.Nat.{_<_};
 ghost use lib.Dec.{ltb};
 ghost use lib.IntN.{subℕ};
-ghost use Rattle.rules.specs.Book.{dim, key, held, frameRight};
+ghost use Rattle.rules.specs.Book.{dim, key, held, frameRight, rowsRight};
 ghost use Rattle.rules.specs.Broken.{brokenAt, told};
 ghost use Rattle.rules.specs.Calls.{eulerNumber, eulerOf, heldNumber, heldCount};
 ghost use Rattle.reading.specs.Answers.{eulerAnswer, eulerPlace, eulerValue, countedNumber, countedRelations};
@@ -24,12 +25,12 @@ fn set_missing(book: &[u32], d: u32) -> bool
     !book::held(book, book::key(d, 0))
 }
 
-// N_0, and N_2 where D is 2 or more.
+// How many vertices lie in at least one cell, and N_2 where D is 2 or more.
 fn even_sum(book: &[u32]) -> u32
-    requires { ⌜ frameRight (now book) ≡ true ⌝ }
+    requires { ⌜ (frameRight (now book) ≡ true) × (rowsRight (now book) ≡ true) ⌝ }
     ensures { λ r. ⌜ r ≡ evens (now (book .entry)) ⌝ }
 {
-    let n = book::count(book, 0);
+    let n = used_vertices(book);
     if book::dim(book) < 2 {
         return n;
     }
@@ -55,7 +56,7 @@ fn difference(a: u32, b: u32) -> i64
     a as i64 - b as i64
 }
 
-// The Euler number. Refusals: 10, 11, and 15 where d→0 is not held for some 0 < d < D.
+// The Euler number, in which N_0 is the number of vertices that lie in at least one cell. Refusals: 10, 11, and 15 where d→0 is not held for some 0 < d < D.
 pub fn euler(book: &[u32]) -> EulerNumber
     ensures number { λ r. ⌜ eulerAnswer r ≡ eulerNumber (now (book .entry)) ⌝ }
     ensures place { λ r. ⌜ eulerPlace r ≡ told (eulerNumber (now (book .entry))) (brokenAt (now (book .entry))) ⌝ }

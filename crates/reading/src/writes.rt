@@ -1,5 +1,6 @@
 // Write: the day file of the book's mesh.
 use crate::answers::Written;
+use crate::cells::cells;
 use book::Place;
 use dayfile::Header;
 use rows::Rows;
@@ -16,11 +17,7 @@ fn put_file(book: &[u32], bytes: &mut [u8]) -> usize
     requires { ⌜ (frameRight (now book) ≡ true) × (rowsRight (now book) ≡ true) ⌝ }
     ensures { λ r. ⌜ FilePut (now (book .entry)) (now (bytes .entry)) r (now (bytes .exit)) ⌝ }
 {
-    let top = book::dim(book);
-    let k = book::key(top, 0);
-    let first = book::place_of(book, k).0 + book::count(book, top) as usize + 1;
-    let end = first + book::total(book, k) as usize;
-    dayfile::write(Header(book::word(book, Place(0))), &book[first..end], bytes)
+    dayfile::write(Header(book::word(book, Place(0))), cells(book), bytes)
 }
 
 // Writes the book's file, each cell's vertices ascending, and gives its length; later bytes stay as they were. Refusals: 10, 11, 18.

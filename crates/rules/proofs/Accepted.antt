@@ -2,16 +2,16 @@
 use mathlib.Core.Path.{_≡_, refl, sym, ap, _∙_}
 use mathlib.Core.Bool.{Bool, true, false, cond, not, _&&_, _||_, true≢false}
 use mathlib.Core.List.{List, [], _∷_, _++_, map}
-use Prim.Native.Nat.{ℕ, _*_, _/_, _%_, _≤_, _<_}
+use Prim.Native.Nat.{ℕ, zero, suc, _*_, _/_, _%_, _≤_, _<_}
 use native.Mathlib.Omega.{arith}
 use lib.ListN.{length, length-append, length-replicate}
 use lib.Dec.{eqb, ltb, leb}
 use lib.IntN.{ℤ}
-use borrow.Author.Tests.{not-true, not-false, ltb-true, ltb-false, leb-false, eqb-true, eqb-false, eq-eqb, ne-eqb, le-ltb}
+use borrow.Author.Tests.{not-true, not-false, ltb-true, ltb-false, leb-false, eqb-true, eqb-false, eq-eqb, ne-eqb, lt-ltb, le-ltb}
 use Rattle.rules.specs.Lists.{upTo, anyOf, allOf, repeats, sorted, filled}
 use Rattle.rules.specs.File.{fileDim, fileVertices, fileCells, fileSpare, lengthOf, cellsInFile, outOf, twice, padSet}
 use Rattle.rules.specs.Book.{dim, count, key, held, needs, rowOf, frameRight, rowsRight}
-use Rattle.rules.specs.Calls.{Rule, firstBroken, loaded, fileRules, loadRules, loadNumber, loadWords, added, makeRules, makeNumber, makeWords, asked, askRules, askNumber, askWords, wordsOf, pairsOff, listRules, listNumber, listWords, rowRules, rowNumber, rowPart, foundIn, readIn, findRules, findNumber, findFound, findRead, differs, hasToMake, dropped, dropRules, dropNumber, dropWords}
+use Rattle.rules.specs.Calls.{Rule, firstBroken, loaded, fileRules, loadRules, loadNumber, loadWords, added, makeRules, makeNumber, makeWords, asked, askRules, askNumber, askWords, wordsOf, pairsOff, listRules, listNumber, listWords, rowRules, rowNumber, rowPart, foundIn, readIn, findRules, findNumber, findFound, findRead, differs, hasToMake, dropped, dropRules, dropNumber, dropWords, eulerRules, eulerNumber}
 use Rattle.rules.specs.Phases.{counted}
 use Rattle.rules.specs.Closures.{lengthsRight, closeRules, closeNumber}
 use Rattle.rules.proofs.Tests.{left, right, neither, none-of}
@@ -295,6 +295,21 @@ find-accepted ws d e i j h = (rw h, rw h)
 pub find-refused : (ws : List ℕ) (d e i j : ℕ) → 0 < findNumber ws d e i j → (findFound ws d e i j ≡ false) × (findRead ws d e i j ≡ 0)
 unfolding findFound findRead
 find-refused ws d e i j l = let n = ne-eqb (findNumber ws d e i j) 0 (omega arith) in (rw n, rw n)
+
+-- ---- Euler
+pub eulers : (ws : List ℕ) → eulerNumber ws ≡ 0 → (d : ℕ) → 0 < d → d < dim ws → d < 3 → held ws (key d 0) ≡ true
+unfolding eulerNumber eulerRules allOf
+eulers ws h d p l t =
+    let r = unbroken (eulerRules ws) (unfold allOf eulerRules in refl) h in
+    let n : not ((ltb 1 (dim ws) && not (held ws (key 1 0))) || (ltb 2 (dim ws) && not (held ws (key 2 0)))) ≡ true = search (left, right) depth 9 in
+    let o = neither (ltb 1 (dim ws) && not (held ws (key 1 0))) (ltb 2 (dim ws) && not (held ws (key 2 0))) n in
+    go d p t l (o .0) (o .1)
+  where
+    go : (d : ℕ) → 0 < d → d < 3 → d < dim ws → (ltb 1 (dim ws) && not (held ws (key 1 0))) ≡ false → (ltb 2 (dim ws) && not (held ws (key 2 0))) ≡ false → held ws (key d 0) ≡ true
+    go zero p t l a b = absurd (omega arith)
+    go (suc zero) p t l a b = not-false _ (rw (lt-ltb 1 (dim ws) l) at a)
+    go (suc (suc zero)) p t l a b = not-false _ (rw (lt-ltb 2 (dim ws) l) at b)
+    go (suc (suc (suc d))) p t l a b = absurd (omega arith)
 
 -- ---- phase closures
 pub record Closes (ws : List ℕ) (counts : List ℤ) (closures steps bytes : ℕ) : Type 0 where

@@ -14,19 +14,14 @@ use Rattle.rules.specs.Book.{dim, count, key, held, mentions, rowOf, row
 use Rattle.rules.specs.Made.{built, made}
 use Rattle.rules.specs.Calls.{countAfter, added, differs}
 use Rattle.rules.proofs.Tests.{left, right}
-use Rattle.rules.proofs.Needs.{key-div}
 use Rattle.rules.proofs.Mentions.{mentions-after}
 use Rattle.rules.proofs.FrameRule.{Framed, framed, count-inner}
 use Rattle.rules.proofs.FiveRules.{made-set, made-is}
-use Rattle.rules.proofs.RightCells.{cellsOf}
+use Rattle.rules.proofs.RightCells.{cellsOf, cells-rows}
 use Rattle.rules.proofs.Added.{other-added, keeps-added, dim-added}
 use Rattle.rules.proofs.RightMake.{added-old}
 use Rattle.rules.proofs.RightUsed.{bare-dim}
 use Rattle.rules.proofs.MadeAgree.{used-held, used-count, used-rows}
-
-cells-rows : (ws : List ℕ) → cellsOf ws ≡ rowsOf ws (key (dim ws) 0)
-unfolding cellsOf rowsOf
-cells-rows ws = rw (key-div (dim ws) 0 (omega arith))
 
 -- what Build makes, from the rows of D→0
 pub made-sets : (ws : List ℕ) (x : ℕ) → 0 < x → made ws x 0 ≡ built x [] (rowsOf ws (key (dim ws) 0))

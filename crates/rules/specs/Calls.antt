@@ -5,7 +5,7 @@ use Prim.Native.Nat.{ℕ, zero, suc, _+_, _-_, _/_, _%_, _^_}
 use lib.ListN.{length, getD, take, drop}
 use lib.Dec.{eqb, ltb, leb}
 use lib.IntN.{ℤ, subℕ}
-use Rattle.rules.specs.Lists.{upTo, anyOf, allOf, has, repeats, firstRepeated, joined, sorted, firstAt, filled}
+use Rattle.rules.specs.Lists.{upTo, anyOf, allOf, has, repeats, firstRepeated, joined, sorted, firstAt, filled, membersBelow}
 use Rattle.rules.specs.File.{field, fileDim, fileVertices, fileCells, fileSpare, lengthOf, cellsInFile, outOf, twice, padSet, fileBytes}
 use Rattle.rules.specs.Book.{dim, count, key, named, held, mentions, keysHeld, place, offset, total, rowOf, rowsOf, relation, needs, frameRight, rowsRight}
 use Rattle.rules.specs.Made.{made}
@@ -307,10 +307,18 @@ eulerRules ws =
 unfoldable pub eulerNumber : List ℕ → ℕ
 eulerNumber ws = firstBroken (eulerRules ws) 0
 
--- N_0 − N_1 for D = 1, N_0 − N_1 + N_2 for 2, N_0 − N_1 + N_2 − N_3 for 3
+-- with v vertices, and n d for N_d: v − N_1 for D = 1, v − N_1 + N_2 for 2, v − N_1 + N_2 − N_3 for 3
+unfoldable pub alternating : ℕ → ℕ → (ℕ → ℕ) → ℤ
+alternating D v n = subℕ (v + cond (leb 2 D) (n 2) 0) (n 1 + cond (leb 3 D) (n 3) 0)
+
+-- ==== "The Euler number counts points nobody uses"
+-- the vertices that lie in at least one cell, ascending
+unfoldable pub usedVertices : List ℕ → List ℕ
+usedVertices ws = membersBelow (count ws 0) (rowsOf ws (key (dim ws) 0))
+
+-- the Euler number: in it N_0 is the number of vertices that lie in at least one cell
 unfoldable pub eulerOf : List ℕ → ℤ
-eulerOf ws =
-    subℕ (count ws 0 + cond (leb 2 (dim ws)) (count ws 2) 0) (count ws 1 + cond (leb 3 (dim ws)) (count ws 3) 0)
+eulerOf ws = alternating (dim ws) (length (usedVertices ws)) (count ws)
 
 -- ==== "Calls": Held count
 -- Held count's refusal: 10; the frame rule alone is checked

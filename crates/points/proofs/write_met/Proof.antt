@@ -6,7 +6,7 @@ use native.Mathlib.Omega.{arith}
 use Rattle.rules.specs.Lists.{upTo, keep}
 use Rattle.rules.proofs.Numbered.{length-upTo}
 use Rattle.relations.specs.Words.{Written}
-use Rattle.points.specs.Points.{bears}
+use Rattle.rules.specs.Stamps.{bears}
 use Rattle.relations.proofs.Appended.{written-none, kept-below, kept-range}
 use Rattle.points.proofs.write_met.Statement.{statement}
 use Rattle.points.proofs.write_met.Tie as tie

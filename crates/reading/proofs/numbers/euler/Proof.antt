@@ -7,7 +7,7 @@ use mir.Syntax.{w64}
 use mir.ValLaws.{toZ-ofZ}
 use borrow.Author.Needs.{needs}
 use Rattle.rules.specs.Book.{frameRight, rowsRight}
-use Rattle.rules.specs.Calls.{eulerOf}
+use Rattle.rules.specs.Calls.{alternating, eulerOf}
 use Rattle.rules.proofs.Told.{none-right, some-wrong, told-eleven, untold-as}
 use Rattle.book.proofs.Flags.{off, on}
 use Rattle.rows.specs.Answers.{rowsPlace}
@@ -87,7 +87,7 @@ unfolding missing
 faced c = sym (c .before .set-missing2 .ensures) ∙ c .if3 .left
 
 even-sum-requires : tie.Need-even-sum-requires
-even-sum-requires c κs = frame (c .before .before .before .before)
+even-sum-requires c κs = (frame (c .before .before .before .before), rowed (c .before .before .before .before))
 
 odd-sum-requires : tie.Need-odd-sum-requires
 odd-sum-requires c κs = frame (c .before .before .before .before .before)
@@ -96,7 +96,7 @@ difference-requires : tie.Need-difference-requires
 difference-requires c κs = search needs
 
 returns-5 : tie.Need-returns-5
-unfolding eulerAnswer eulerPlace eulerValue eulerOf evens odds
+unfolding eulerAnswer eulerPlace eulerValue eulerOf alternating evens odds
 returns-5 c =
     let f = c .before .before .before in
     let d = f .before .before in
