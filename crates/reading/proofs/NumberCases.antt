@@ -16,6 +16,7 @@ use Rattle.rules.proofs.FrameRule.{limit, framed, count-limit}
 use Rattle.rules.proofs.First.{keep-last}
 use Rattle.rules.proofs.Members.{members-most}
 use Rattle.reading.specs.Parts.{evens, odds}
+use Rattle.reading.proofs.Marks.{vertices-low}
 
 -- d→0 is missing, where d < D
 unfoldable pub missing : List ℕ → ℕ → Bool
@@ -69,8 +70,8 @@ module _ (ws : List ℕ) where
 
   module _ (f : frameRight ws ≡ true) where
     used-low : length (usedVertices ws) ≤ 8192
-    unfolding usedVertices limit
-    used-low = omega (arith, members-most (count ws 0) (rowsOf ws (key (dim ws) 0)), count-limit ws (framed ws f) 0 (omega arith))
+    unfolding usedVertices
+    used-low = omega (arith, members-most (count ws 0) (rowsOf ws (key (dim ws) 0)), vertices-low ws f)
 
     pub evens-low : 2 ≤ dim ws → length (usedVertices ws) + count ws 2 ≤ 24576
     unfolding limit

@@ -296,7 +296,7 @@ pub find-refused : (ws : List ℕ) (d e i j : ℕ) → 0 < findNumber ws d e i j
 unfolding findFound findRead
 find-refused ws d e i j l = let n = ne-eqb (findNumber ws d e i j) 0 (omega arith) in (rw n, rw n)
 
--- ---- Euler
+-- ---- Euler: d→0 is held for each 0 < d < D
 pub eulers : (ws : List ℕ) → eulerNumber ws ≡ 0 → (d : ℕ) → 0 < d → d < dim ws → d < 3 → held ws (key d 0) ≡ true
 unfolding eulerNumber eulerRules allOf
 eulers ws h d p l t =

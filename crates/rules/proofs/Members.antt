@@ -24,6 +24,7 @@ unfolding joined anyOf
 has-joined v [] = unfold has in refl
 has-joined v (r ∷ rs) = has-append v r (joined rs) ∙ ap (λ (b : Bool). has v r || b) (has-joined v rs)
 
+-- there are no more of them than numbers below n
 pub members-most : (n : ℕ) (rs : List (List ℕ)) → length (membersBelow n rs) ≤ n
 unfolding membersBelow
 members-most n rs = keep-length (λ v. anyOf (has v) rs) n
