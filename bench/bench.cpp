@@ -321,6 +321,54 @@ static void compare_closures(const Named &m) {
     must(same(ours, theirs), "the two programs write different closures");
 }
 
+// Coordinates without order, three for each vertex; one in sixteen is 0.0 or -0.0, so that both zeros are met.
+static std::vector<double> coordinates_of(const Named &m) {
+    uint32_t last = 7;
+    std::vector<double> out(3 * size_t(m.points));
+    for (double &x : out) {
+        last = last * 1664525u + 1013904223u;
+        uint32_t kind = last >> 8 & 31;
+        x = kind == 0 ? 0.0 : kind == 1 ? -0.0 : (int32_t(last >> 4) - (1 << 27)) / 1024.0;
+    }
+    return out;
+}
+
+// The box of a cell and that of the whole mesh, with three axes, in a book that holds D->0 alone; and what each takes beyond the checks of the book, beside the plain
+// program's look at the coordinates and its box.
+static void compare_boxes(const Named &m) {
+    const size_t room = book_with(m, {})[4];
+    auto book = book_with(m, {}, room);
+    const plain::Book plainly = loaded(m);
+    const auto coordinates = coordinates_of(m);
+    const uint32_t last = uint32_t(m.cells.size()) - 1;
+    const int times = 61;
+    plain::Box ours{}, theirs{};
+    uint32_t some = 0;
+    bool found = false;
+    auto nothing = [] { return 0; };
+    auto same_ends = [&] { return std::memcmp(ours.data(), theirs.data(), sizeof ours) == 0; };
+    auto checks = [&](int) { check(book, room); };
+    auto box = [&](int) { must(daybook_box(book.data(), room, coordinates.data(), coordinates.size(), 3, m.dim, last, ours.data(), &key, &position) == 0, "box"); };
+    auto whole = [&](int) {
+        must(daybook_whole_box(book.data(), room, coordinates.data(), coordinates.size(), 3, ours.data(), &some, &key, &position) == 0 && some == 1, "whole box");
+    };
+    auto called = both(nothing, box, checks, times);
+    line(m, "box", room, called.first, best(nothing, [&](int) { must(plain::box(plainly, coordinates, 3, m.dim, last, theirs), "plain box"); }, times));
+    must(same_ends(), "the two programs give different boxes of a cell");
+    line(m, "box floats", room, called.first - called.second, best(nothing, [&](int) {
+        must(plain::lent(plainly, coordinates, 3), "plain coordinates");
+        theirs = plain::entity_box(plainly, coordinates, 3, m.dim, last);
+    }, times));
+    must(same_ends(), "the two programs give different boxes of a cell");
+    called = both(nothing, whole, checks, times);
+    line(m, "whole box", room, called.first, best(nothing, [&](int) { must(plain::whole_box(plainly, coordinates, 3, theirs, found) && found, "plain whole box"); }, times));
+    must(same_ends(), "the two programs give different boxes of the whole mesh");
+    line(m, "all floats", room, called.first - called.second, best(nothing, [&](int) {
+        must(plain::lent(plainly, coordinates, 3) && plain::used_box(plainly, coordinates, 3, theirs), "plain whole box");
+    }, times));
+    must(same_ends(), "the two programs give different boxes of the whole mesh");
+}
+
 // A call on a book of so many words that holds all relations, a million times; the time of one. Each program gives a number for the k-th, and their sums agree.
 template <class Ours, class Theirs> void compare_calls(const Named &m, const std::string &what, size_t words, Ours ours, Theirs theirs) {
     const uint32_t calls = 1000000;
@@ -409,11 +457,14 @@ int main() {
     }
     // phase closures, on a book that holds just what they need
     for (const Named &m : meshes) compare_closures(m);
+    // boxes, on a book that has only been loaded
+    for (const Named &m : meshes) compare_boxes(m);
     // from a sixteenth of the size to the whole
     for (unsigned n : {11, 22, 45}) compare(sheet(n), "all", {}, relations(sheet(n)), 0, 5);
     for (unsigned k : {1, 2, 5, 10}) compare(box(8, 8, k), "all", {}, relations(box(8, 8, k)), 0, 5);
     for (unsigned n : {256, 1024, 4096}) compare(scattered(n, 2 * n), "all", {}, relations(scattered(n, 2 * n)), 0, 5);
     for (unsigned n : {11, 22, 45}) compare_closures(sheet(n));
+    for (unsigned n : {11, 22, 45}) compare_boxes(sheet(n));
     // what a lent word costs that no relation needs
     for (size_t spare : {0, 1 << 18, 1 << 20}) compare(sheet(45), "0->2", {}, {{0, 2}}, spare, 5);
     // what a row or a search in one costs does not depend on the book

@@ -12,6 +12,8 @@
  *   'W' n, n bytes          write to a buffer with these bytes
  *   'E', 'H'                Euler number, held count
  *   'P' n f s m, the lists  phase closures: n counts, and f closures, s steps (8 bytes each) and m bytes as they are before it
+ *   'X' n a d i, the lists  the box of entity i of dimension d: n coordinates (8 bytes each) of a axes, and six ends as they are before it
+ *   'Y' n a, the lists      the box of the whole mesh: the same, and behind the ends the place for whether there is one (4 bytes)
  *   'C'                     a checksum only
  *
  * Behind each letter stands what the places for a key (4 bytes) and a position (8 bytes) hold before the call.
@@ -22,6 +24,8 @@
  * For a list of asks the byte buffer is the answers, and the first out place a checksum of the pairs.
  * For phase closures the byte buffer is the masked bytes, the first out place a checksum of the counts, and the
  * second those of the closures (its lower half) and of the steps (its upper half).
+ * For a box the byte buffer is the six ends, and the first out place a checksum of the coordinates; for that of the whole mesh the
+ * lower half of the second out place is what the place for whether there is one holds.
  */
 #include "daybook.h"
 #include <stdio.h>
@@ -89,7 +93,7 @@ int main(void) {
     int call;
     crc_table();
     while ((call = getchar()) != EOF) {
-        struct lent bytes = lend(0), pairs = lend(0), counts = lend(0), closures = lend(0), steps = lend(0);
+        struct lent bytes = lend(0), pairs = lend(0), counts = lend(0), closures = lend(0), steps = lend(0), coordinates = lend(0), some = lend(0);
         struct lent place[2] = {lend(0), lend(0)};
         take(&place[0], 4), take(&place[1], 8);
         uint32_t *key = (uint32_t *)at(place[0]);
@@ -174,13 +178,31 @@ int main(void) {
             out[1] = crc(at(closures), closures.size) | (uint64_t)crc(at(steps), steps.size) << 32;
             break;
         }
+        case 'X': {
+            uint32_t axes;
+            size_t floats = number();
+            axes = number(), d = number(), i = number();
+            take(&coordinates, floats * 8), take(&bytes, 6 * 8);
+            given = daybook_box(words, n, (double *)at(coordinates), floats, axes, d, i, (double *)at(bytes), key, position);
+            out[0] = crc(at(coordinates), coordinates.size);
+            break;
+        }
+        case 'Y': {
+            size_t floats = number();
+            uint32_t axes = number();
+            take(&coordinates, floats * 8), take(&bytes, 6 * 8), take(&some, 4);
+            given = daybook_whole_box(words, n, (double *)at(coordinates), floats, axes, (double *)at(bytes), (uint32_t *)at(some), key, position);
+            out[0] = crc(at(coordinates), coordinates.size);
+            memcpy(out + 1, at(some), 4);
+            break;
+        }
         case 'C':
             break;
         default:
             return 2;
         }
         uint32_t stand = stands(book) & stands(bytes) & stands(pairs) & stands(counts) & stands(closures) & stands(steps);
-        stand &= stands(place[0]) & stands(place[1]);
+        stand &= stands(coordinates) & stands(some) & stands(place[0]) & stands(place[1]);
         uint32_t rest[3] = {crc(at(book), book.size), crc(at(bytes), bytes.size), stand};
         fwrite(&given, 4, 1, stdout);
         fwrite(out, 8, 2, stdout);
@@ -196,6 +218,7 @@ int main(void) {
         fflush(stdout);
         free(bytes.whole), free(pairs.whole);
         free(counts.whole), free(closures.whole), free(steps.whole);
+        free(coordinates.whole), free(some.whole);
         free(place[0].whole), free(place[1].whole);
     }
     free(book.whole);

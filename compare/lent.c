@@ -15,7 +15,7 @@
 #include <sys/mman.h>
 #include <unistd.h>
 
-enum { STACK = 1 << 20, THREADS = 8, ROUNDS = 6, CALLS = 11 };
+enum { STACK = 1 << 20, THREADS = 8, ROUNDS = 6, CALLS = 13 };
 
 static void fail(const char *what) {
     printf("not as the header says: %s\n", what);
@@ -197,11 +197,39 @@ static void fill_counts(void) {
     for (uint32_t k = 0; k < 8192; k++) counts[k] = k % 16 ? (int32_t)(k * 40503 % 65536) - 32768 : DAYBOOK_MASKED;
 }
 
+/* Three coordinates for each vertex of a mesh of the full size. */
+static double coordinates[3 * 8192];
+
+/* Whole numbers from -1,000 to 1,000 without order, zeros of both signs among them. */
+static void fill_coordinates(void) {
+    for (uint32_t k = 0; k < 3 * 8192; k++) coordinates[k] = k % 16 ? (double)(k * 40503 % 2001) - 1000.0 : k % 32 ? 0.0 : -0.0;
+}
+
+static uint32_t points_of(const uint32_t *book) { return book[0] >> 16 & 0x3FFF; }
+
+static uint32_t entities_of(const uint32_t *book, uint32_t d) {
+    return d == 0 ? points_of(book) : d == book[0] >> 30 ? book[0] >> 3 & 0x1FFF : book[1 + d];
+}
+
+/* The box of the last entity of dimension d, with two axes where e is even and three where it is odd. */
+static uint32_t box_of(struct call *c) {
+    uint32_t axes = 2 + c->e % 2;
+    double box[6];
+    return daybook_box(c->book, c->words, coordinates, (size_t)axes * points_of(c->book), axes, c->d, entities_of(c->book, c->d) - 1, box, &c->key, &c->position);
+}
+
+/* The same of the whole mesh. */
+static uint32_t whole_box_of(struct call *c) {
+    uint32_t axes = 2 + c->e % 2, some = 0;
+    double box[6];
+    return daybook_whole_box(c->book, c->words, coordinates, (size_t)axes * points_of(c->book), axes, box, &some, &c->key, &c->position);
+}
+
 /* Phase closures with lists as long as the book asks; word 3 has the number of faces for tetrahedra, and for triangles the faces are the cells. */
 static uint32_t closures_of(struct call *c) {
     const uint32_t *book = c->book;
     size_t faces = book[0] >> 30 == 3 ? book[3] : book[0] >> 3 & 0x1FFF;
-    return daybook_closures(book, c->words, counts, book[0] >> 16 & 0x3FFF, closures, faces, steps, book[2], masked, book[2], &c->key, &c->position);
+    return daybook_closures(book, c->words, counts, points_of(book), closures, faces, steps, book[2], masked, book[2], &c->key, &c->position);
 }
 
 static void *make_call(void *place) {
@@ -223,6 +251,8 @@ static void *make_call(void *place) {
     case 8: c->number = daybook_ask_list(c->book, c->words, pair, 2, &yes, 1) | yes; break;
     case 9: c->number = closures_of(c); break;
     case 10: c->number = daybook_drop(c->book, c->words, c->d, c->e, &c->key, &c->position); break;
+    case 11: c->number = box_of(c); break;
+    case 12: c->number = whole_box_of(c); break;
     default: break;
     }
     return NULL;
@@ -253,8 +283,8 @@ static void measured(struct call *c) {
 
 /* The calls that check the whole book, on one that is broken here. */
 static void find_broken(struct call *c, uint32_t key, size_t position) {
-    static const int checking[] = {1, 2, 4, 5, 9, 10};
-    for (int k = 0; k < 6; k++) {
+    static const int checking[] = {1, 2, 4, 5, 9, 10, 11, 12};
+    for (int k = 0; k < 8; k++) {
         c->which = checking[k], c->d = 0, c->e = 0;
         c->key = 99, c->position = 99;
         measured(c);
@@ -311,12 +341,13 @@ static void measure(struct mesh m) {
     struct call c = {CALLS, 0, 0, calloc(words, 4), words, file_of(m, file), 0, 0, 0};
     if (!c.book) exit(3);
     bare = painted(&c);
-    for (c.which = 0; c.which < 10; c.which++)
+    for (c.which = 0; c.which < CALLS; c.which++)
         for (c.d = 0; c.d <= m.dim; c.d++)
             for (c.e = 0; c.e <= m.dim; c.e++) {
+                if (c.which == 10) continue; /* drops are measured below */
                 /* make and a list of asks are measured on a book that holds nothing but D -> 0 yet */
                 if (c.which == 2 || c.which == 8) daybook_load(file, c.size, c.book, c.words, &c.number);
-                /* phase closures on one that holds 1 -> 0 and 2 -> 0; intervals have no faces, and are refused */
+                /* phase closures, and then boxes, on one that holds 1 -> 0 and 2 -> 0; intervals have no faces, and are refused */
                 if (c.which == 9 && c.d == 0 && c.e == 0) ask(c.book, c.words, 1, 0), ask(c.book, c.words, 2, 0);
                 uint32_t due = c.which == 9 && m.dim == 1 ? DAYBOOK_DIMENSION_OVER : DAYBOOK_ACCEPTED;
                 measured(&c);
@@ -380,7 +411,8 @@ static void reads_no_further(void) {
 struct worker {
     uint8_t file[32768];
     size_t size, words;
-    uint32_t *book, number;
+    uint32_t *book, number, some;
+    double boxes[2][6];
 };
 
 static void *work(void *place) {
@@ -388,6 +420,10 @@ static void *work(void *place) {
     uint32_t cell;
     w->number = daybook_load(w->file, w->size, w->book, w->words, &cell);
     w->number |= ask_all(w->book, w->words) | drop(w->book, w->words, 0, 1) | drop(w->book, w->words, 1, 0);
+    uint32_t key, points = points_of(w->book);
+    size_t position;
+    w->number |= daybook_box(w->book, w->words, coordinates, 2 * points, 2, 2, entities_of(w->book, 2) - 1, w->boxes[0], &key, &position);
+    w->number |= daybook_whole_box(w->book, w->words, coordinates, 3 * points, 3, w->boxes[1], &w->some, &key, &position);
     return NULL;
 }
 
@@ -410,6 +446,7 @@ static void side_by_side(void) {
             alone.book = malloc(200000 * 4);
             work(&alone);
             if (workers[k].number || memcmp(alone.book, workers[k].book, 200000 * 4)) fail("calls on different books side by side");
+            if (workers[k].some != 1 || memcmp(alone.boxes, workers[k].boxes, sizeof alone.boxes)) fail("boxes in different books side by side");
             free(alone.book);
             free(workers[k].book);
         }
@@ -419,8 +456,8 @@ static void side_by_side(void) {
 
 int main(void) {
     setvbuf(stdout, NULL, _IOLBF, 0);
-    static const char *names[] = {"load", "ask", "make", "row", "write", "euler", "held_count", "find", "ask_list", "closures", "drop"};
-    static const size_t kilobytes[] = {128, 512, 512, 16, 64, 64, 16, 16, 512, 64, 64};
+    static const char *names[] = {"load", "ask", "make", "row", "write", "euler", "held_count", "find", "ask_list", "closures", "drop", "box", "whole_box"};
+    static const size_t kilobytes[] = {128, 512, 512, 16, 64, 64, 16, 16, 512, 64, 64, 64, 128};
     enough("a sheet of 3,698 triangles", sheet(44));
     enough("two stacked scans of 4,056 tetrahedra", stacked(27));
     enough("a chain of 4,096 intervals", chain(4096));
@@ -432,6 +469,7 @@ int main(void) {
     for (unsigned dim = 1; dim <= 3; dim++) enough("random cells on few vertices", random_cells(dim, 24, 250));
     for (unsigned dim = 1; dim <= 3; dim++) enough("random cells on many vertices", random_cells(dim, 900, 250));
     fill_counts();
+    fill_coordinates();
     measure(sheet(45));
     measure(stacked(27));
     measure(random_cells(3, 8192, 4096));

@@ -5,6 +5,7 @@ where the library takes the quick one, so that a mistake has to be made twice to
 A file is a bytes object, a book a list of numbers below 2^32 that the calls change in place.
 """
 
+import math
 from collections import namedtuple
 from fractions import Fraction
 
@@ -491,3 +492,55 @@ def closures(book, counts, faces, steps, masked):
         taken = step(*(counts[v] for v in row))
         steps[i], masked[i] = Fraction(taken or 0, TURN), int(taken is None)
     return 0, None
+
+
+# ---- boxes: coordinates are floats, two or three for each vertex, vertex by vertex
+
+def coordinates_number(frame, coordinates, axes):
+    """26, 21 or 27, or 0 where the coordinates may be lent."""
+    if axes not in (2, 3):
+        return 26
+    if len(coordinates) != axes * frame.counts[0]:
+        return 21
+    if not all(map(math.isfinite, coordinates)):
+        return 27
+    return 0
+
+
+def ends(vertices, coordinates, axes):
+    """The box of vertices in this order: least x, greatest x, and so on. Of equal values, and only zeros are told apart then, min and max
+    give the first that they meet, as does a box that begins as the first vertex and is grown only by what is strictly smaller or greater."""
+    out = []
+    for axis in range(axes):
+        values = [coordinates[axes * v + axis] for v in vertices]
+        out += [min(values), max(values)]
+    return out + [0.0] * (6 - len(out))
+
+
+def box(book, coordinates, axes, d, i):
+    """(number, the six ends or None, place)"""
+    frame, number, place = checked(book)
+    if number:
+        return number, None, place
+    if d > frame.D:
+        return 12, None, None
+    if d > 0 and (d, 0) not in frame.held:
+        return 15, None, None
+    if i >= frame.counts[d]:
+        return 17, None, None
+    number = coordinates_number(frame, coordinates, axes)
+    if number:
+        return number, None, None
+    return 0, ends(frame.rows(d, 0)[i] if d > 0 else [i], coordinates, axes), None
+
+
+def whole_box(book, coordinates, axes):
+    """(number, the six ends or None, place); 0 and None where no vertex lies in a cell"""
+    frame, number, place = checked(book)
+    if number:
+        return number, None, place
+    number = coordinates_number(frame, coordinates, axes)
+    if number:
+        return number, None, None
+    vertices = sorted(frame.used_vertices())
+    return 0, ends(vertices, coordinates, axes) if vertices else None, None

@@ -5,8 +5,9 @@ lent word, byte and float (by its bits), and every guard word must agree.
 
 --full adds meshes of the full size. It prints, for each call, how often each number was given, how often each
 answer of a list of asks and each closure of a face was written, how often random calls met each kind of place
-where a book is broken, each answer that comes of dropping relations and each kind of mesh that an Euler number was
-given for, and the seed. From 20,000 calls on each of these has to be met, from 200,000 on a hundred times.
+where a book is broken, each answer that comes of dropping relations, each kind of mesh that an Euler number was
+given for and each answer and kind of a box, and the seed. From 20,000 calls on each of these has to be met, from
+200,000 on a hundred times.
 """
 
 import argparse
@@ -36,6 +37,18 @@ ROOM = ("drop 0", "drop 10", "drop 11", "drop 12", "drop 16", "drop 24", "make 2
 # What an Euler number was given for, no cells at all left aside: D, whether calls alone have written the book since a load, and whether each
 # vertex lies in a cell.
 POINTS = tuple("D = %d, %s, %s" % kind for kind in itertools.product((1, 2, 3), ("reached", "not reached"), ("all used", "some unused")))
+# What boxes give: each number of both calls, no box, the axes, the entities, books that calls alone have written since a load and others; and
+# ends that are zeros, where both zeros are among the coordinates: the first of them in the order of the vertices is the end.
+BOXES = tuple("box %d" % number for number in (0, 10, 11, 12, 15, 17, 26, 21, 27)) + tuple("whole_box %d" % number for number in (0, 10, 11, 26, 21, 27))
+BOX_KINDS = ("no box",) + tuple("%s, %s" % kind for kind in itertools.product(
+    ("d = 0", "d = 1", "d = 2", "d = 3", "whole"), ("2 axes", "3 axes", "reached", "not reached"))) + tuple(
+    "%s %s %s" % kind for kind in itertools.product(("box", "whole"), ("least", "greatest"), ("0.0", "-0.0")))
+# Floats by their bits: zeros, the least of all and the least that is normal and its neighbour, ones, the greatest and its neighbour.
+ZEROS = (0, 1 << 63)
+SMALL = ZEROS + tuple(sign << 63 | bits for sign in (0, 1) for bits in (1, 2, (1 << 52) - 1, 1 << 52))
+LARGE = tuple(sign << 63 | bits for sign in (0, 1) for bits in (0x3FF << 52, 0x7FE << 52, (0x7FF << 52) - 2, (0x7FF << 52) - 1))
+# Infinities and NaNs, of both signs, quiet and signalling, with the least payload and the greatest.
+NOT_FINITE = tuple(sign << 63 | 0x7FF << 52 | bits for sign in (0, 1) for bits in (0, 0, 1, 1 << 51, (1 << 51) - 1, (1 << 52) - 1, 0xDEADBEEF))
 OUTSIDE = (-32769, 32768, 65535, 65537, 98304, 131072, -65536, 2 ** 31 - 1, -2 ** 31)  # what no count may be
 ODD_FLOATS = [struct.pack("<Q", bits) for bits in (0, 1 << 63, 0x7FF8 << 48, 0xFFF0 << 48 | 1)]  # 0.0, -0.0 and two NaNs
 
@@ -103,6 +116,20 @@ def signed(numbers):
     return struct.pack("<%di" % len(numbers), *numbers)
 
 
+def doubles(numbers):
+    """The floats that have these bits."""
+    return list(struct.unpack("<%dd" % len(numbers), long_words(numbers)))
+
+
+def bits_of(numbers):
+    """The bits of these floats."""
+    return list(struct.unpack("<%dQ" % len(numbers), struct.pack("<%dd" % len(numbers), *numbers)))
+
+
+def long_words(numbers):
+    return struct.pack("<%dQ" % len(numbers), *numbers)
+
+
 def floats(steps):
     """The bytes of a list of steps: those that were there before the call, or a fraction's, which a float holds exactly."""
     return b"".join(step if isinstance(step, bytes) else struct.pack("<d", float(step)) for step in steps)
@@ -118,10 +145,10 @@ class Runs:
         self.count_kinds()
 
     def count_kinds(self):
-        """Counts from 0 how often each kind of place is met, by the calls that check the whole book, by row and by find; what comes of drops; and what an
-        Euler number is given for."""
+        """Counts from 0 how often each kind of place is met, by the calls that check the whole book, by row and by find; what comes of drops; what an
+        Euler number is given for; and what boxes give."""
         self.kinds = {"places": dict.fromkeys(rules.KINDS, 0), "row's": dict.fromkeys(rules.OWN_KINDS, 0), "find's": dict.fromkeys(rules.OWN_KINDS, 0),
-                      "room": dict.fromkeys(ROOM, 0), "points": dict.fromkeys(POINTS, 0)}
+                      "room": dict.fromkeys(ROOM, 0), "points": dict.fromkeys(POINTS, 0), "boxes": dict.fromkeys(BOXES + BOX_KINDS, 0)}
 
     def fail(self, what, got, wanted):
         print("DISAGREE: %s: the library says %s, the reference %s" % (what, got, wanted))
@@ -157,8 +184,9 @@ class Runs:
             raise SystemExit("%s: 25 in a book that calls alone have written" % name)
 
     def meet(self, what):
-        if what in self.kinds["room"]:
-            self.kinds["room"][what] += 1
+        for row in (self.kinds["room"], self.kinds["boxes"]):
+            if what in row:
+                row[what] += 1
 
     def load(self, data):
         self.past, self.sum = list(self.book), None
@@ -237,6 +265,43 @@ class Runs:
         for face in faces if number == 0 else []:
             self.count("its closures", face)
         return number, faces, steps, masked
+
+    def box(self, coordinates, axes, d, i):
+        """The call's number and, where accepted, the six ends; the coordinates are given by their bits."""
+        self.past = self.book
+        before = self.rng.randbytes(48)
+        text = b"X" + packed([len(coordinates), axes, d, i]) + long_words(coordinates) + before
+        number, ends, place = rules.box(self.book, doubles(coordinates), axes, d, i)
+        after = before if ends is None else struct.pack("<6d", *ends)
+        self.check("box", text, number, zlib.crc32(long_words(coordinates)), OUT, after, (axes, d, i, doubles(coordinates[:40])), place)
+        if number == 0:
+            vertices = rules.Frame.of(self.book).rows(d, 0)[i] if d else [i]
+            self.meet_box("d = %d" % d, "box", vertices, coordinates, axes, ends)
+        return number, ends
+
+    def whole_box(self, coordinates, axes):
+        """The same for the whole mesh; where there is no box, None."""
+        self.past = self.book
+        before, some = self.rng.randbytes(48), self.rng.getrandbits(32)
+        text = b"Y" + packed([len(coordinates), axes]) + long_words(coordinates) + before + packed([some])
+        number, ends, place = rules.whole_box(self.book, doubles(coordinates), axes)
+        after = before if ends is None else struct.pack("<6d", *ends)
+        if number == 0:
+            some = int(ends is not None)
+        self.check("whole_box", text, number, zlib.crc32(long_words(coordinates)), OUT & LOW | some, after, (axes, doubles(coordinates[:40])), place)
+        if number == 0 and ends is None:
+            self.meet("no box")
+        elif number == 0:
+            self.meet_box("whole", "whole", rules.Frame.of(self.book).used_vertices(), coordinates, axes, ends)
+        return number, ends
+
+    def meet_box(self, what, call, vertices, coordinates, axes, ends):
+        """Counts what a box was given for, and its ends that are one of two zeros."""
+        self.meet("%s, %d axes" % (what, axes))
+        self.meet("%s, %s" % (what, "not reached" if self.file is None else "reached"))
+        for place, end in enumerate(ends[:2 * axes]):
+            if end == 0 and set(ZEROS) <= {coordinates[axes * v + place // 2] for v in vertices}:
+                self.meet("%s %s %s" % (call, ("least", "greatest")[place % 2], end))
 
     def dimension(self):
         return self.rng.choice((0, 0, 1, 1, 2, 2, 3, 3, 4, 0xFFFFFFFF)) if self.rng.random() < 0.2 else self.rng.randrange(4)
@@ -355,6 +420,49 @@ class Runs:
             counts[rng.randrange(len(counts))] = rng.choice(OUTSIDE)
         self.closures(counts, *self.unwritten(*sizes[1:]))
 
+    def some_coordinates(self, length):
+        """So many coordinates, by their bits: any finite ones, few different ones, the smallest or the greatest, and mostly zeros of both signs among them."""
+        rng = self.rng
+
+        def finite():
+            bits = rng.getrandbits(64)
+            return bits if bits >> 52 & 0x7FF < 0x7FF else bits ^ 1 << 62
+
+        few = [finite() for _ in range(3)]
+        among = rng.choice((ZEROS, SMALL, LARGE, SMALL + LARGE, few, few, None))
+        zeros = rng.choice((0, 0, 0.2, 0.6))
+        return [rng.choice(ZEROS) if rng.random() < zeros else rng.choice(among) if among else finite() for _ in range(length)]
+
+    def some_axes(self):
+        """Coordinates and a number of axes, mostly right ones; or another number of axes, of which some have the right length modulo 2^32; or too many or too few
+        coordinates, as many as for another number of axes among them; or one or two that are not finite."""
+        rng, frame = self.rng, rules.Frame.of(self.book)
+        points = frame.counts[0] if frame else rng.randrange(6)
+        axes = rng.choice((2, 3))
+        length = axes * points
+        if rng.random() < 0.12:
+            again = 2 ** 32 // (points & -points) if points and points % 2 == 0 else 1 << 31
+            axes = rng.choice((0, 1, 4, 0xFFFFFFFF, axes + again, 4, 1 << 31 | axes, 1 << 16 | axes)) & 0xFFFFFFFF
+            length = rng.choice((length, axes * points if axes < 5 else length, axes * points % 2 ** 32 % 64))
+        if rng.random() < 0.12:
+            length = rng.choice((0, max(0, length - 1), length + 1, points, 2 * points, 3 * points, 4 * points, max(0, length - points), length + 32))
+        coordinates = self.some_coordinates(length)
+        if coordinates and rng.random() < 0.12:
+            for _ in range(rng.choice((1, 1, 2))):
+                coordinates[rng.choice((0, length - 1, rng.randrange(length), rng.randrange(length)))] = rng.choice(NOT_FINITE)
+        return coordinates, axes
+
+    def some_box(self):
+        """The box of an entity, mostly one that there is, or of the whole mesh."""
+        rng, frame = self.rng, rules.Frame.of(self.book)
+        coordinates, axes = self.some_axes()
+        if rng.random() < 0.3:
+            return self.whole_box(coordinates, axes)
+        d = rng.randrange(frame.D + 1) if frame and rng.random() < 0.9 else self.dimension()
+        count = frame.counts.get(d, 0) if frame else 0
+        i = rng.choice((rng.randrange(count), rng.randrange(count), count - 1)) if count and rng.random() < 0.9 else rng.choice((count, 0, self.number()))
+        return self.box(coordinates, axes, d, i)
+
     def step(self, made):
         rng = self.rng
         if rng.random() < made:
@@ -367,6 +475,8 @@ class Runs:
                 self.relation(way, self.dimension(), self.dimension())
         elif rng.random() < 0.1:
             self.some_closures()
+        elif rng.random() < 0.1:
+            self.some_box()
         else:
             self.look()
 
@@ -444,6 +554,49 @@ class Runs:
         for _ in range(8):
             self.some_closures()
 
+    def box_run(self):
+        """Boxes in a book that holds edges and faces, true or lying ones, or has not the room for them, or has dropped one; at times with a word changed, or broken
+        or damaged. In a book that calls alone have written, boxes that should lie in each other do."""
+        rng = self.rng
+        if rng.random() < 0.5:
+            self.use([7] * rng.choice((900, 900, 900, 60)))
+            D, points, cells = meshes.random_mesh(rng, rng.choice((1, 2, 3)), rng.choice((1, 4, 6, 8, 12)), rng.choice((0, 1, 2, 5, 14)))
+            self.load(rules.file_bytes(D, points + rng.choice((0, 0, 1, 9)), cells))
+        else:
+            self.use(meshes.lying_book(rng, 300))
+        for d in (1, 2):
+            self.relation("ask", d, 0)
+        if rng.random() < 0.2:
+            self.relation("drop", rng.choice((1, 2)), 0)
+        way = rng.random()
+        if way < 0.08:
+            self.use(meshes.worn_book(rng, self.book))
+        elif way < 0.14 and rules.checked(self.book)[1] == 0:
+            self.use(meshes.broken_book(rng, self.book))
+        elif way < 0.2:
+            self.use(meshes.damaged_book(rng, self.book))
+        for _ in range(8):
+            self.some_box()
+        if self.file is not None:
+            axes = rng.choice((2, 3))
+            self.boxes_inside(self.some_coordinates(axes * rules.Frame.of(self.book).counts[0]), axes, 2)
+
+    def boxes_inside(self, coordinates, axes, most):
+        """At most so many boxes of cells, and at most so many of what lies inside each: all lie in each other and in that of the whole mesh."""
+        rng, frame = self.rng, rules.Frame.of(self.book)
+        whole, state = self.whole_box(coordinates, axes)[1], rules.State(frame)
+        for c in rng.sample(range(frame.counts[frame.D]), min(most, frame.counts[frame.D])):
+            cell, vertices = self.box(coordinates, axes, frame.D, c)[1], set(state.rows[frame.D, 0][c])
+            self.lies_in("cell %d" % c, cell, whole)
+            for d in range(frame.D):
+                sets = [{v} for v in range(frame.counts[0])] if d == 0 else map(set, state.rows.get((d, 0), ()))
+                inside = [i for i, one in enumerate(sets) if one <= vertices]
+                for i in rng.sample(inside, min(most, len(inside))):
+                    self.lies_in("(%d, %d)" % (d, i), self.box(coordinates, axes, d, i)[1], cell)
+
+    def lies_in(self, what, inner, outer):
+        self.demand("the box of %s lies in the one around it" % what, all(inner[k] >= outer[k] and inner[k + 1] <= outer[k + 1] for k in (0, 2, 4)), True)
+
     def points_run(self):
         """The Euler number of a mesh as it is, without its unused points and with forty more, which is the same; and of lying books, mostly of such as hold
         what it needs."""
@@ -477,7 +630,7 @@ class Runs:
         for d, e, i in rng.sample(rows, min(2, len(rows))):
             self.row(d, e, i)
             self.find(d, e, i, self.number())
-        for way in rng.sample(range(7), 3):
+        for way in rng.sample(range(8), 3):
             if way < 3:
                 self.relation(("make", "ask", "drop")[way], self.dimension(), self.dimension())
             elif way == 3:
@@ -486,6 +639,8 @@ class Runs:
                 self.euler()
             elif way == 5:
                 self.some_closures()
+            elif way == 6:
+                self.some_box()
             else:
                 self.look()
 
@@ -514,6 +669,7 @@ class Runs:
         self.points_of_full_size()
         self.lists_of_full_size()
         self.closures_of_full_size()
+        self.boxes_of_full_size()
         self.repeats_of_full_size()
         many = bytearray(rules.file_bytes(*whole))
         for at in (0, 2):
@@ -574,6 +730,27 @@ class Runs:
                 off[which] += rng.choice((1, -1))
                 self.closures((counts + [0])[:off[0]], *self.unwritten(*off[1:]))
 
+    def boxes_of_full_size(self):
+        """Meshes with 8,192 points, of each dimension, whose last points cells use or do not, and the sheet of bench/, with two axes and with three: the whole mesh's box, those of the
+        first, the last and one other entity of each dimension; with the last coordinate not finite, and one too many or too few; then of three cells with what lies inside."""
+        rng = self.rng
+        for mesh in (meshes.scattered(4096, 8192), meshes.strip(3, 8192, 4093), meshes.strip(2, 8192, 0), meshes.sheet(46, 46), meshes.random_mesh(rng, 1, 8192, 4096)):
+            self.use([0xFFFFFFFF] * 200000)
+            self.load(rules.file_bytes(*mesh))
+            for d in range(1, mesh[0]):
+                self.relation("ask", d, 0)
+            counts = rules.Frame.of(self.book).counts
+            for axes in (2, 3):
+                coordinates = self.some_coordinates(axes * mesh[1])
+                self.demand("number", self.whole_box(coordinates, axes)[0], 0)
+                for d in range(mesh[0] + 1):
+                    for i in (0, counts[d] - 1, rng.randrange(counts[d]), counts[d]):
+                        self.demand("number", self.box(coordinates, axes, d, i)[0], 0 if i < counts[d] else 17)
+                wrong = (coordinates[:-1] + [rng.choice(NOT_FINITE)], 27), (coordinates[:-1], 21), (coordinates + coordinates[:1], 21)
+                for lent, number in wrong:
+                    self.demand("number", [self.box(lent, axes, mesh[0], 0)[0], self.whole_box(lent, axes)[0]], [number] * 2)
+            self.boxes_inside(coordinates, 3, 3)
+
     def repeats_of_full_size(self):
         """Full meshes whose last cell is made another one, its vertices turned about: the first, the one before it, or any; then as books."""
         rng = self.rng
@@ -617,7 +794,7 @@ class Runs:
 
     def examples(self):
         """Examples by hand, whose numbers stand here as they were worked out: 10 and 11 of the paper, cells twice, searches, lists of asks, phase closures, drops,
-        and unused points."""
+        unused points, and boxes."""
         t = rules.file_bytes(2, 4, [[0, 1, 3], [1, 2, 3]])
         for room, number in ((54, 0), (53, 13)):
             self.use([7] * room)
@@ -649,6 +826,9 @@ class Runs:
         self.edges_differ()
         self.faces_differ()
         self.unused_points()
+        self.boxes(t)
+        self.boxes_refused(t)
+        self.boxes_unused()
 
     def cells_twice(self, t):
         """A cell that repeats an earlier one, in files and in books; and an edge in three triangles, which is allowed."""
@@ -731,7 +911,8 @@ class Runs:
         self.use(book)
         for name, call in (("make", lambda: self.relation("make", 9, 9)), ("ask", lambda: self.relation("ask", 2, 0)), ("write", lambda: self.write(3)),
                            ("euler", self.euler), ("closures", lambda: self.closures([65535], *self.unwritten(1, 1, 1))[0]),
-                           ("drop", lambda: self.relation("drop", 9, 9))):
+                           ("drop", lambda: self.relation("drop", 9, 9)), ("box", lambda: self.box([NOT_FINITE[0]], 9, 9, 9)[0]),
+                           ("whole_box", lambda: self.whole_box([NOT_FINITE[0]], 9)[0])):
             self.demand("%s of a book broken at %s" % (name, place), (call(), self.told), (11, place))
         self.demand("a list", self.ask_list([9, 9, 2, 0], [7, 7]), (0, [11, 11]))
 
@@ -989,6 +1170,91 @@ class Runs:
             first, second, third, fourth = self.closures(counts, *self.unwritten(4, 6, 6))[1]
             self.demand("closures around a tetrahedron", fourth - third + second - first, 0)
 
+    def box_is(self, wanted, coordinates, axes, d=None, i=0):
+        """The box of an entity, or of the whole mesh where d is None, with these coordinates; ends are told apart by their bits."""
+        number, ends = self.whole_box(bits_of(coordinates), axes) if d is None else self.box(bits_of(coordinates), axes, d, i)
+        self.demand("the box of (%s, %d)" % (d, i), (number, bits_of(ends)), (0, bits_of(wanted)))
+
+    def boxes(self, t):
+        """The edges of T are 0 1, 0 3, 1 3, 1 2, 2 3, its cells 0 1 3 and 1 2 3. Vertex 0 has 0.0 and -0.0, vertex 3 has them the other way round, and both stand
+        on a third axis at -7."""
+        self.use([7] * 60)
+        self.load(t)
+        flat, high = [0.0, -0.0, 2.5, -1.0, -3.0, 4.0, -0.0, 0.0], [0.0, -0.0, -7.0, 2.5, -1.0, 8.0, -3.0, 4.0, 1e308, -0.0, 0.0, -7.0]
+        self.box_is([0.0, 2.5, -1.0, -0.0, 0.0, 0.0], flat, 2, 2, 0)
+        self.box_is([-3.0, 2.5, -1.0, 4.0, 0.0, 0.0], flat, 2, 2, 1)
+        self.box_is([-3.0, 2.5, -1.0, 4.0, 0.0, 0.0], flat, 2)
+        self.box_is([0.0, 2.5, -1.0, -0.0, -7.0, 8.0], high, 3, 2, 0)
+        self.box_is([-3.0, 2.5, -1.0, 4.0, -7.0, 1e308], high, 3)
+        self.box_is([-0.0, -0.0, 0.0, 0.0, 0.0, 0.0], flat, 2, 0, 3)
+        self.box_is([-3.0, -3.0, 4.0, 4.0, 1e308, 1e308], high, 3, 0, 2)
+        self.demand("the edges", self.relation("ask", 1, 0), 0)
+        self.box_is([0.0, 0.0, -0.0, -0.0, 0.0, 0.0], flat, 2, 1, 1)
+        self.box_is([-0.0, 2.5, -1.0, 0.0, -7.0, 8.0], high, 3, 1, 2)
+        self.box_is([-3.0, -0.0, 0.0, 4.0, 0.0, 0.0], flat, 2, 1, 4)
+        least, most = doubles([1 << 63 | 1, 1])
+        self.box_is([least, most, least, most, 0.0, 0.0], [-0.0, 0.0, least, most, most, least, 0.0, -0.0], 2)
+        self.box_is([least, most, least, most, 0.0, 0.0], [0.0, -0.0, least, most, most, least, 0.0, -0.0], 2, 2, 1)
+        low, high = doubles([LARGE[-1], LARGE[3]])
+        self.box_is([low, high, low, high, 0.0, 0.0], [0.0, -0.0, low, high, 5.0, 5.0, high, low], 2)
+        # vertex 2 goes before vertex 3, though the cells name it after
+        self.box_is([-0.0, 1.0, -1.0, 0.0, 0.0, 0.0], [1.0, -1.0, 1.0, -1.0, -0.0, 0.0, 0.0, -0.0], 2)
+        self.demand("the bits of 0.0, -0.0 and the least float of all", bits_of([0.0, -0.0, most]), [0, 1 << 63, 1])
+
+    def boxes_refused(self, t):
+        """Each refusal of both calls and what it goes before. What is wrong is given from the last to be looked at to the first, one after another."""
+        self.use([7] * 60)
+        self.load(t)
+        right, odd = bits_of([1.0, 2.0, 3.0, 4.0, 5.0, 6.0, 7.0, 8.0]), NOT_FINITE[0]
+        for bad in NOT_FINITE:
+            for place in range(8):
+                lent = right[:place] + [bad] + right[place + 1:]
+                self.demand("not finite", [self.box(lent, 2, 0, 1)[0], self.box(lent, 2, 2, 1)[0], self.whole_box(lent, 2)[0]], [27] * 3)
+        for length in (0, 1, 4, 7, 9, 12, 16):
+            for lent in ([0] * length, [odd] * length):
+                self.demand("length %d" % length, [self.box(lent, 2, 2, 1)[0], self.whole_box(lent, 2)[0]], [21] * 2)
+        for length in (0, 8, 11, 13):
+            self.demand("length %d" % length, [self.box([odd] * length, 3, 2, 1)[0], self.whole_box([odd] * length, 3)[0]], [21] * 2)
+        for axes in (0, 1, 4, 5, 1 << 30 | 2, 1 << 31 | 2, 1 << 31 | 3, 0xFFFFFFFE, 0xFFFFFFFF):
+            for lent in (right, [], [odd] * 4, [0] * 16):
+                self.demand("%d axes" % axes, [self.box(lent, axes, 2, 1)[0], self.whole_box(lent, axes)[0]], [26] * 2)
+        for lent, axes in ((right, 2), ([odd] * 8, 2), ([odd], 2), ([odd], 9)):
+            for d, i, number in ((0, 4, 17), (0, 0xFFFFFFFF, 17), (2, 2, 17), (2, 0xFFFFFFFF, 17), (1, 0, 15), (1, 5, 15), (1, 0xFFFFFFFF, 15), (3, 0, 12), (4, 9, 12), (0xFFFFFFFF, 9, 12)):
+                self.demand("box of (%d, %d)" % (d, i), self.box(lent, axes, d, i)[0], number)
+        self.demand("1→0, and one edge too many", [self.relation("ask", 1, 0), self.box(right, 2, 1, 4)[0], self.box([odd], 9, 1, 5)[0]], [0, 0, 17])
+        self.demand("0→1 and no more 1→0", [self.relation("ask", 0, 1), self.relation("drop", 1, 0), self.box(right, 2, 1, 4)[0]], [0, 0, 15])
+        book = list(self.book)
+        for broken, number in (([0] + book[1:], 10), ([], 10), (book[:-1] + [9], 11)):
+            self.use(broken)
+            for lent, axes, d, i in ((right, 2, 2, 0), ([odd], 9, 9, 9)):
+                self.demand("a broken book", [self.box(lent, axes, d, i)[0], self.whole_box(lent, axes)[0]], [number] * 2)
+
+    def boxes_unused(self):
+        """Points that no cell uses do not count, before, between and behind the others, though their coordinates are looked at; no cells, and no points."""
+        one, far = [5.0, -6.0], [-1e300, 1e300]
+        for D, points, cells, wanted in ((1, 4, [[2, 1]], [5.0, 7.0, -6.0, -6.0]), (2, 6, [[4, 1, 3]], [5.0, 8.0, -8.0, -6.0]), (3, 9, [[7, 5, 3, 1]], [5.0, 8.0, -8.0, -6.0])):
+            self.use([7] * 60)
+            self.load(rules.file_bytes(D, points, cells))
+            places = [far] * points
+            for v, place in zip(sorted(cells[0]), (one, [7.0, -6.0], [8.0, -8.0], one)):
+                places[v] = place
+            lent = [x for place in places for x in place]
+            self.box_is(wanted + [0.0, 0.0], lent, 2)
+            self.box_is(wanted + [0.0, 0.0], lent, 2, D, 0)
+            self.box_is([-1e300, -1e300, 1e300, 1e300, 0.0, 0.0], lent, 2, 0, 0)
+            for v in {0, points - 1} - set(cells[0]):
+                bad = bits_of(lent[:2 * v] + [0.0]) + [NOT_FINITE[1]] + bits_of(lent[2 * v + 2:])
+                self.demand("a coordinate that nobody needs", [self.whole_box(bad, 2)[0], self.box(bad, 2, D, 0)[0]], [27, 27])
+        for D in (1, 2, 3):
+            for points in (0, 1, 40):
+                self.use([7] * 20)
+                self.load(rules.file_bytes(D, points, []))
+                for axes in (2, 3):
+                    self.demand("no box", self.whole_box([0] * (axes * points), axes), (0, None))
+                    self.demand("no cell", [self.box([0] * (axes * points), axes, d, 0)[0] for d in (D, 0)], [17, 0 if points else 17])
+                    self.demand("too long", self.whole_box([0] * (axes * points + 1), axes)[0], 21)
+                self.demand("one axis", self.whole_box([0] * points, 1)[0], 26)
+
     def run(self, full):
         self.examples()
         if full:
@@ -997,16 +1263,18 @@ class Runs:
         while self.left > 0:
             self.sequences += 1
             way = self.rng.random()
-            if way < 0.38:
+            if way < 0.34:
                 self.true_run()
-            elif way < 0.62:
+            elif way < 0.56:
                 self.strange_run()
-            elif way < 0.73:
+            elif way < 0.66:
                 self.phase_run()
-            elif way < 0.79:
+            elif way < 0.72:
                 self.points_run()
-            elif way < 0.89:
+            elif way < 0.81:
                 self.room_run()
+            elif way < 0.90:
+                self.box_run()
             else:
                 self.broken_run()
 

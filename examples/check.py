@@ -1,6 +1,6 @@
-"""Tests mesh.py: it makes the example files as they stand here, its pictures count the edges and colour the triangles as the
-separate program does, and Gmsh files come out as the bytes written below, or with one line that says what is wrong. The broken
-book is broken in the one word that README.md shows.
+"""Tests mesh.py: it makes the example files as they stand here, its pictures count the edges, colour the triangles and frame cells
+as the separate program does, and Gmsh files come out as the bytes written below, or with one line that says what is wrong. The
+broken book is broken in the one word that README.md shows, and the boxes that README.md shows are the separate program's.
 
     python3 examples/check.py
 """
@@ -191,6 +191,23 @@ def scan():
     demand("the scan is the dam and forty points", contents(HERE, "scan.day"), rules.file_bytes(D, points + 40, cells))
 
 
+def boxes(name, cells=()):
+    """The box of the whole mesh and those of cells, by the separate program, as README.md shows them; the coordinates are whole numbers."""
+    book = [0] * (1 << 18)
+    demand("load", rules.load(contents(HERE, name + ".day"), book), (0, None))
+    places = [float(x) for x in contents(HERE, name + ".xy").split()]
+    given = [rules.whole_box(book, places, 2)] + [rules.box(book, places, 2, book[0] >> 30, cell) for cell in cells]
+    demand("boxes", [number for number, _, _ in given], [0] * len(given))
+    return ["%s: x %d to %d, y %d to %d\n" % (what, *box[:4]) for what, (_, box, _) in zip(["mesh"] + ["cell %d" % cell for cell in cells], given)]
+
+
+def framed():
+    """README.md shows the dam's boxes; forty points more have no part in the scan's."""
+    shown = boxes("dam", (1027, 1905))
+    demand("README.md shows the dam's boxes", "".join(shown).encode() in contents(HERE, "..", "README.md"), True)
+    demand("the scan's box", boxes("scan"), shown[:1])
+
+
 def parts(svg):
     """The picture's texts, its rings by their class, and its paths by their names."""
     page = minidom.parse(svg)
@@ -262,6 +279,24 @@ def closure_pictures(folder):
     demand("the dam without slips closes", set(closures(dam, phases.dam(shapes.dam()[1], ()))[0]), {0, 2})
 
 
+def framed_pictures(folder):
+    """The frames of T, the dam and the scan around the triangles' own paths; the whole mesh's leaves out the scan's forty points."""
+    for name, cells in (("t", (0, 1)), ("dam", (1027, 1905, 0, 3682)), ("scan", (7,)), ("t", ())):
+        day, xy, svg = [os.path.join(where, name + kind) for where, kind in ((HERE, ".day"), (HERE, ".xy"), (folder, ".svg"))]
+        words = [word for cell in cells for word in ("--box", str(cell))]
+        demand("draw " + name, run("draw", day, svg, "--xy", xy, *words), (0, "", ""))
+        triangles = [[[float(x) for x in corner.split()] for corner in path[1:].split("L")] for path in parts(svg)[2]["cells"].split("Z")[:-1]]
+        wanted = []
+        for what, corners in [("mesh", sum(triangles, []))] * bool(cells) + [("cell%d" % cell, triangles[cell]) for cell in cells]:
+            (left, right), (top, bottom) = [(min(axis), max(axis)) for axis in zip(*corners)]
+            wanted.append((what, left, top, right - left, bottom - top))
+        rects = [rect for rect in minidom.parse(svg).getElementsByTagName("rect") if rect.getAttribute("class")]
+        demand("frames of " + name, [rect.getAttribute("class") for rect in rects], [what for what, *_ in wanted])
+        for rect, (_, *sizes) in zip(rects, wanted):
+            apart = [float(rect.getAttribute(side)) - size for side, size in zip(("x", "y", "width", "height"), sizes)]
+            demand("a frame of " + name, max(map(abs, apart)) < 0.16, True)  # each is rounded to a tenth
+
+
 def refusals(folder):
     """Every number that a file can be refused with, and files that are no help."""
     day, svg = os.path.join(folder, "bad.day"), os.path.join(folder, "bad.svg")
@@ -286,6 +321,10 @@ def refusals(folder):
         said = "%s: D is %d, and only triangles are coloured by their closure\n" % (day, D)
         demand("draw", run("draw", put(day, data), svg, "--counts", put(counts, "0\n1\n2\n3\n")), (1, "", said))
     demand("draw", run("draw", put(day, T), svg, "--counts", svg), (1, "", "%s: No such file or directory\n" % svg))
+    for cell in ("2", "-1"):
+        said = "%s: there is no cell %s\n" % (day, cell)
+        demand("draw", run("draw", put(day, T), svg, "--xy", os.path.join(HERE, "t.xy"), "--box=" + cell), (1, "", said))
+    demand("draw", run("draw", put(day, T), svg, "--box", "1"), (1, "", "%s: boxes are of places, and there is no --xy\n" % day))
     demand("draw", run("draw", svg, svg), (1, "", "%s: No such file or directory\n" % svg))
     demand("a refused picture is not written", os.path.exists(svg), False)
 
@@ -337,11 +376,13 @@ def main():
         made(folder)
         broken()
         scan()
+        framed()
         pictures(folder)
         closure_pictures(folder)
+        framed_pictures(folder)
         refusals(folder)
         gmsh_files(folder)
-    print("examples: the files are as they are made, the pictures count and colour right, Gmsh files are read or refused as they should be")
+    print("examples: the files are as they are made, the pictures count, colour and frame right, Gmsh files are read or refused as they should be")
 
 
 if __name__ == "__main__":

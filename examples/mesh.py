@@ -3,7 +3,7 @@
 
     python3 examples/mesh.py make
     python3 examples/mesh.py from-msh IN.msh OUT.day [--xy OUT.xy]
-    python3 examples/mesh.py draw FILE.day [--xy FILE.xy] [--counts FILE.counts] OUT.svg
+    python3 examples/mesh.py draw FILE.day [--xy FILE.xy] [--counts FILE.counts] [--box CELL]... OUT.svg
 
 A day file has no coordinates. They stand beside it, one line "x y" for each vertex. Where there are none, `draw` lays the
 mesh out by how many edges part two vertices, so that what is far apart along the mesh is far apart in the picture.
@@ -11,6 +11,9 @@ mesh out by how many edges part two vertices, so that what is far apart along th
 Nor has it phases. They stand beside it as counts, one line for each vertex: a whole number of 65,536ths of a turn, from -32768
 to 32767, or 65536 where the vertex is masked. With them `draw` colours each triangle by its closure. The closure's sign is that
 of the way around by ascending vertices, be it clockwise or counterclockwise in the picture.
+
+With --box `draw` also frames the whole mesh and each cell that is named, by their upright boxes. These are of places, so --xy has
+to be there.
 """
 
 import argparse
@@ -113,14 +116,19 @@ def counts_of(path, points):
     return counts
 
 
-def draw(day, xy, counts, svg):
+def draw(day, xy, counts, boxes, svg):
     number, cell, mesh = rules.read_file(read(day))
     if number:
         sys.exit("refused %d" % number + (", cell %d" % cell if cell is not None else ""))
     if counts and mesh[0] != 2:
         sys.exit("%s: D is %d, and only triangles are coloured by their closure" % (day, mesh[0]))
+    for cell in boxes:
+        if not 0 <= cell < len(mesh[2]):
+            sys.exit("%s: there is no cell %d" % (day, cell))
+    if boxes and not xy:
+        sys.exit("%s: boxes are of places, and there is no --xy" % day)
     write(svg, picture.drawing(os.path.basename(day), mesh, places_of(xy, mesh[1]) if xy else None,
-                               counts_of(counts, mesh[1]) if counts else None))
+                               counts_of(counts, mesh[1]) if counts else None, boxes))
 
 
 def main():
@@ -137,13 +145,14 @@ def main():
     showing.add_argument("svg")
     showing.add_argument("--xy", help="the vertices' x and y")
     showing.add_argument("--counts", help="the vertices' phases, to colour triangles by their closure")
+    showing.add_argument("--box", type=int, action="append", default=[], metavar="CELL", help="a cell to frame by its box, and the whole mesh")
     given = parser.parse_args()
     if given.command == "make":
         make(given.to)
     elif given.command == "from-msh":
         from_msh(given.msh, given.day, given.xy)
     else:
-        draw(given.day, given.xy, given.counts, given.svg)
+        draw(given.day, given.xy, given.counts, given.box, given.svg)
 
 
 if __name__ == "__main__":

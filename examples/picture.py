@@ -1,4 +1,5 @@
-"""A mesh as an SVG picture, its edges coloured by how many cells they touch and, where there are counts, its triangles by their closure."""
+"""A mesh as an SVG picture, its edges coloured by how many cells they touch and, where there are counts, its triangles by their closure;
+some cells may be framed."""
 
 import math
 from xml.sax.saxutils import escape
@@ -10,7 +11,7 @@ import shapes
 KINDS = ("one", "two", "more")
 COLOURS = {"one": "#d4570a", "two": "#5a7891", "more": "#7b2d9c"}
 WORDS = {"one": ("border, ", "1 cell"), "two": ("inside, ", "2 cells"), "more": ("branching, ", "3 or more cells")}
-INK, CELL, PAPER = "#22303c", "#e6eef5", "#ffffff"
+INK, CELL, PAPER, FRAME = "#22303c", "#e6eef5", "#ffffff", "#0b7a4b"
 FACES = {-1: "minus", 0: "cells", 1: "plus", 2: "masked"}
 FILLS = {-1: "#0a62d0", 0: CELL, 1: "#d0104c", 2: "#b4bac0"}
 SIGNS = {-1: "−1", 0: "0", 1: "+1"}
@@ -153,6 +154,19 @@ class Picture:
         unused = sorted(set(range(self.points)) - {v for cell in self.cells for v in cell})
         self.path("alone", [self.line([v]) + "h0" for v in unused], 'stroke="%s" stroke-width="3"' % INK)
 
+    def frame(self, name, vertices):
+        """The upright box of these vertices. The paper's y runs down, so its least is the top."""
+        left, right, top, bottom = rules.ends(vertices, [x for place in self.at for x in place], 2)[:4]
+        self.out.append('<rect class="%s" x="%.1f" y="%.1f" width="%.1f" height="%.1f" stroke="%s" stroke-width="1.6"/>'
+                        % (name, left, top, right - left, bottom - top, FRAME))
+
+    def draw_boxes(self, boxes):
+        """Frames of the whole mesh and of these cells."""
+        if boxes:
+            self.frame("mesh", sorted({v for cell in self.cells for v in cell}))
+        for cell in boxes:
+            self.frame("cell%d" % cell, sorted(self.cells[cell]))
+
     def legend_row(self, y, wide, marks):
         """A row of marks, each a style, a shape of that width and the words behind it."""
         x = (self.width + 24 - sum(wide + 33 + 6.2 * len(words) for _, _, words in marks)) / 2
@@ -178,8 +192,8 @@ class Picture:
         self.legend_row(self.height - 24, 22, marks)
 
 
-def drawing(name, mesh, places, counts):
-    """The picture's text; places are None where there are no coordinates, and counts where there are no phases."""
+def drawing(name, mesh, places, counts, boxes=()):
+    """The picture's text; places are None where there are no coordinates, and counts where there are no phases; boxes are cells to be framed."""
     picture = Picture(name, mesh, places, counts)
     if picture.D == 2:
         picture.draw_cells()
@@ -192,6 +206,7 @@ def drawing(name, mesh, places, counts):
         if picture.D < 3:
             picture.number_edges()
         picture.number_vertices()
+    picture.draw_boxes(boxes)
     if picture.counted:
         picture.legend_of_faces()
     picture.legend()

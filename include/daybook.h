@@ -1,5 +1,6 @@
 /*
- * daybook: a day's mesh of triangles or tetrahedra, who touches whom in it, and how phase closes around its faces.
+ * daybook: a day's mesh of triangles or tetrahedra, who touches whom in it, how phase closes around its faces, and the
+ * upright box around any part of it.
  *
  * A mesh has a dimension D (1, 2 or 3), N_0 vertices (at most 8,192) and N_D cells
  * (at most 4,096): intervals, triangles or tetrahedra, no two with the same vertices. An entity is a
@@ -47,11 +48,11 @@
  * daybook_row and daybook_find look at their row's own two offsets only, and say at the call which is meant.
  *
  * STACK, measured by painting it. daybook_make, daybook_ask and daybook_ask_list need up to 512 KiB
- * (417 KiB were measured), daybook_load up to 128 KiB (113), daybook_drop, daybook_write, daybook_euler and
- * daybook_closures up to 64 KiB (57), the other calls less than 16 KiB (1).
+ * (417 KiB were measured), daybook_load and daybook_whole_box up to 128 KiB (113), daybook_drop, daybook_write,
+ * daybook_euler, daybook_closures and daybook_box up to 64 KiB (57), the other calls less than 16 KiB (1).
  *
  * OWNERSHIP. Nothing is allocated, nothing is global, nothing is kept after a call returns: the
- * book, the file and the buffers stay yours. Calls on different books may run side by side in
+ * book, the file, the lists and the buffers stay yours. Calls on different books may run side by side in
  * threads. In one call no two of the lent places may overlap, and no pointer may be null but for
  * an array of length 0 (which may then be any pointer that is not null, properly aligned).
  *
@@ -90,11 +91,13 @@ enum {
     DAYBOOK_BUFFER_TOO_SHORT = 18, /* the byte buffer is shorter than the file */
     DAYBOOK_NO_SUCH_INDEX = 19,    /* j is N_e or more */
     DAYBOOK_PAIRS_OFF = 20,        /* half a pair, more than DAYBOOK_MOST_PAIRS pairs, or answers that have not one place a pair */
-    DAYBOOK_LIST_LENGTH = 21,      /* a lent list is not as long as the mesh asks */
+    DAYBOOK_LIST_LENGTH = 21,      /* a lent list has not one place a vertex, edge or face, or coordinates are not axes times N_0 */
     DAYBOOK_COUNT_OUTSIDE = 22,    /* a count is neither from -32,768 to 32,767 nor DAYBOOK_MASKED */
     DAYBOOK_CELL_TWICE = 23,       /* two cells of the file have the same vertices; the lowest that repeats an earlier one is given */
     DAYBOOK_CELLS_KEPT = 24,       /* D -> 0 is not dropped */
-    DAYBOOK_NUMBER_DIFFERS = 25    /* d -> 0 has to be made, another relation keeps N_d, and another number of entities is found */
+    DAYBOOK_NUMBER_DIFFERS = 25,   /* d -> 0 has to be made, another relation keeps N_d, and another number of entities is found */
+    DAYBOOK_AXIS_COUNT = 26,       /* the number of axes is neither 2 nor 3 */
+    DAYBOOK_NOT_FINITE = 27        /* a coordinate is infinite or not a number */
 };
 
 /* The key that stands for the free words, those from the used length on, where a place in the book is given. */
@@ -160,8 +163,8 @@ uint32_t daybook_ask_list(uint32_t *book, size_t book_len, const uint32_t *pairs
 /* Drops the relation d -> e and gives back its room: later relations move down, and the words that are freed
  * are set to 0, so that the next relation can take them. Relations that were made from it stay. daybook_row and
  * daybook_find still answer in each of them, though a row may lie at another place than before; daybook_write
- * and daybook_held_count answer as ever. daybook_make, daybook_euler and daybook_closures refuse with 15 where
- * they need what was dropped; daybook_ask makes it again.
+ * and daybook_held_count answer as ever, and so does daybook_whole_box. daybook_make, daybook_euler,
+ * daybook_closures and daybook_box refuse with 15 where they need what was dropped; daybook_ask makes it again.
  *
  * The words follow from the mesh and from which relations are held: in a book that these calls alone have
  * written, dropping a relation and making it again, or asking for it while its sources are held, gives the same
@@ -213,6 +216,27 @@ uint32_t daybook_held_count(const uint32_t *book, size_t book_len, uint32_t *cou
 uint32_t daybook_closures(const uint32_t *book, size_t book_len, const int32_t *counts, size_t counts_len,
                           int32_t *closures, size_t closures_len, double *steps, size_t steps_len, uint8_t *masked, size_t masked_len,
                           uint32_t *key, size_t *position);
+
+/* The upright box of entity i of dimension d: the least and the greatest of each coordinate over its vertices. For
+ * d = 0 that is the vertex itself, twice. coordinates has two or three floats for each vertex, as axes says, vertex
+ * by vertex: x y or x y z, in whatever unit you like.
+ *
+ * Where accepted, and only then, all six of box are written: least x, greatest x, least y, greatest y, least z,
+ * greatest z; with two axes the last two are 0.0. Each other end is the coordinate of a vertex, bit for bit. The vertices
+ * are taken in ascending order, and an end is replaced only by what is strictly smaller, or greater, so that of 0.0
+ * and -0.0, where either could be the end, the one that comes first is.
+ *
+ * coordinates has to be axes times N_0 long, and each of its floats finite, also those of vertices that are not
+ * looked at. Needs d -> 0 where d is not 0. Refusals: 10, 11 with *key and *position, 12, 15, 17, 26, 21, 27. */
+uint32_t daybook_box(const uint32_t *book, size_t book_len, const double *coordinates, size_t coordinates_len, uint32_t axes, uint32_t d, uint32_t i,
+                     double box[6], uint32_t *key, size_t *position);
+
+/* The upright box of the whole mesh, over all vertices that lie in at least one cell, as daybook_box has it.
+ * Where accepted, *some is 1 and box is written; or no vertex lies in a cell, as in a mesh without cells: then *some
+ * is 0, and box is left alone. Points that no cell uses do not count, but their coordinates have to be finite too.
+ * Needs no relation but D -> 0, which is always held. Refusals: 10, 11 with *key and *position, 26, 21, 27. */
+uint32_t daybook_whole_box(const uint32_t *book, size_t book_len, const double *coordinates, size_t coordinates_len, uint32_t axes, double box[6],
+                           uint32_t *some, uint32_t *key, size_t *position);
 
 #ifdef __cplusplus
 }

@@ -2,7 +2,8 @@
 //!
 //! A book is a slice of `u32` that you lend to each call; `include/daybook.h` says what stands in it. Nothing is
 //! allocated and nothing is kept. A refusal alters nothing that was lent. `make`, `ask` and `ask_list` need up to
-//! 512 KiB of stack, `load` up to 128 KiB, `drop_relation`, `write`, `euler` and `closures` up to 64 KiB.
+//! 512 KiB of stack, `load` and `whole_box` up to 128 KiB, `drop_relation`, `write`, `euler`, `closures` and `box_of` up to
+//! 64 KiB.
 //!
 //! ```no_run
 //! # let file: Vec<u8> = Vec::new();
@@ -67,6 +68,29 @@ mod c {
             steps_len: usize,
             masked: *mut u8,
             masked_len: usize,
+            key: *mut u32,
+            position: *mut usize,
+        ) -> u32;
+        pub fn daybook_box(
+            book: *const u32,
+            book_len: usize,
+            coordinates: *const f64,
+            coordinates_len: usize,
+            axes: u32,
+            d: u32,
+            i: u32,
+            ends: *mut f64,
+            key: *mut u32,
+            position: *mut usize,
+        ) -> u32;
+        pub fn daybook_whole_box(
+            book: *const u32,
+            book_len: usize,
+            coordinates: *const f64,
+            coordinates_len: usize,
+            axes: u32,
+            ends: *mut f64,
+            some: *mut u32,
             key: *mut u32,
             position: *mut usize,
         ) -> u32;
@@ -161,7 +185,7 @@ pub enum Refusal {
     NoSuchIndex,
     /// 20: more than `MOST_PAIRS` pairs, or answers that have not one place a pair.
     PairsOff,
-    /// 21: a lent list is not as long as the mesh asks.
+    /// 21: a lent list has not one place a vertex, edge or face, or coordinates are not axes times N_0.
     ListLength,
     /// 22: a count is neither from −32,768 to 32,767 nor `MASKED`.
     CountOutside,
@@ -172,10 +196,14 @@ pub enum Refusal {
     /// 25: d→0 has to be made, another relation keeps N_d, and another number of entities is found; in a book that these calls
     /// alone have written it cannot occur.
     NumberDiffers,
+    /// 26: the number of axes is neither 2 nor 3.
+    AxisCount,
+    /// 27: a coordinate is infinite or not a number.
+    NotFinite,
 }
 
 impl Refusal {
-    /// The paper's number of this refusal, 1 to 25.
+    /// The paper's number of this refusal, 1 to 27.
     pub fn number(self) -> u32 {
         match self {
             Refusal::FileTooShort => 1,
@@ -203,6 +231,8 @@ impl Refusal {
             Refusal::CellTwice(_) => 23,
             Refusal::CellsKept => 24,
             Refusal::NumberDiffers => 25,
+            Refusal::AxisCount => 26,
+            Refusal::NotFinite => 27,
         }
     }
 }
@@ -249,7 +279,9 @@ fn answer<T>(number: u32, cell: u32, value: T) -> Result<T, Refusal> {
         23 => Refusal::CellTwice(cell),
         24 => Refusal::CellsKept,
         25 => Refusal::NumberDiffers,
-        _ => unreachable!("the library gives 0 to 25"),
+        26 => Refusal::AxisCount,
+        27 => Refusal::NotFinite,
+        _ => unreachable!("the library gives 0 to 27"),
     })
 }
 
@@ -326,8 +358,8 @@ pub fn ask_list(book: &mut [u32], pairs: &[(u32, u32)], answers: &mut [Result<()
 }
 
 /// Drops d→e and gives back its room: later relations move down, and the words that are freed are set to 0. Relations that were
-/// made from it stay; `make`, `euler` and `closures` refuse with `NeedMissing` where they need it, and `ask` makes it again. In a
-/// book that these calls alone have written, a relation that is dropped and made again leaves the same words as before.
+/// made from it stay; `make`, `euler`, `closures` and `box_of` refuse with `NeedMissing` where they need it, and `ask` makes it
+/// again. In a book that these calls alone have written, a relation that is dropped and made again leaves the same words as before.
 ///
 /// ```no_run
 /// # let mut book = vec![0; 500];
@@ -469,6 +501,72 @@ pub fn closures(book: &[u32], counts: &[i32], closures: &mut [i32], steps: &mut 
         )
     };
     place.answer(book, number, ())
+}
+
+/// An upright box: for each axis its least and its greatest coordinate; with two axes both of the third are 0.0.
+#[derive(Clone, Copy, Debug, PartialEq)]
+pub struct Bounds {
+    pub least: [f64; 3],
+    pub greatest: [f64; 3],
+}
+
+impl Bounds {
+    /// The box of the six ends that a call writes: least and greatest by turns.
+    fn of([a, b, c, d, e, f]: [f64; 6]) -> Bounds {
+        Bounds { least: [a, c, e], greatest: [b, d, f] }
+    }
+}
+
+/// The upright box of entity i of dimension d, over its vertices; for d = 0 that is the vertex itself. There are `axes`
+/// coordinates, two or three, for each vertex, vertex by vertex, and each of them has to be finite. d→0 has to be held where d is
+/// not 0. Each end along these axes is the coordinate of a vertex, bit for bit; of 0.0 and −0.0, where either could be the end, the one that comes
+/// first by ascending vertices is.
+///
+/// ```no_run
+/// # let (book, coordinates) = (vec![0; 500], vec![0.0; 8]);
+/// let cell = daybook::box_of(&book, &coordinates, 2, 2, 0)?;
+/// let wide = cell.greatest[0] - cell.least[0];
+/// # Ok::<(), daybook::Refusal>(())
+/// ```
+pub fn box_of(book: &[u32], coordinates: &[f64], axes: u32, d: u32, i: u32) -> Result<Bounds, Refusal> {
+    let (mut ends, mut place) = ([0.0; 6], Place::default());
+    // SAFETY: as in `load`; there are six ends.
+    let number = unsafe {
+        c::daybook_box(
+            book.as_ptr(),
+            book.len(),
+            coordinates.as_ptr(),
+            coordinates.len(),
+            axes,
+            d,
+            i,
+            ends.as_mut_ptr(),
+            &mut place.key,
+            &mut place.position,
+        )
+    };
+    place.answer(book, number, Bounds::of(ends))
+}
+
+/// The upright box of the whole mesh, over the vertices that lie in at least one cell, as `box_of` has it; `None` where there are
+/// none. Points that no cell uses do not count, but their coordinates have to be finite too.
+pub fn whole_box(book: &[u32], coordinates: &[f64], axes: u32) -> Result<Option<Bounds>, Refusal> {
+    let (mut ends, mut some, mut place) = ([0.0; 6], 0, Place::default());
+    // SAFETY: as in `box_of`.
+    let number = unsafe {
+        c::daybook_whole_box(
+            book.as_ptr(),
+            book.len(),
+            coordinates.as_ptr(),
+            coordinates.len(),
+            axes,
+            ends.as_mut_ptr(),
+            &mut some,
+            &mut place.key,
+            &mut place.position,
+        )
+    };
+    place.answer(book, number, (some == 1).then(|| Bounds::of(ends)))
 }
 
 /// At most so many entities of dimension 1, 2 and 3, as if no two cells shared one.

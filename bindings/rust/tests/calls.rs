@@ -1,5 +1,5 @@
 //! The paper's examples and each refusal, through the safe calls.
-use daybook::{Found, Position, Reading, Refusal, Step, CLOSURE_MASKED, FREE_WORDS, MASKED, MOST_PAIRS};
+use daybook::{Bounds, Found, Position, Reading, Refusal, Step, CLOSURE_MASKED, FREE_WORDS, MASKED, MOST_PAIRS};
 
 /// The two triangles {0, 1, 3} and {1, 2, 3}.
 const T: [u8; 14] = [0x80, 0x04, 0x00, 0x10, 0x00, 0x00, 0x00, 0x40, 0x06, 0x00, 0x10, 0x01, 0x00, 0x0C];
@@ -220,6 +220,80 @@ fn readings_and_steps() {
     assert_eq!([Step::of(0.25, 0), Step::of(0.0, 1)], [Step::Turns(0.25), Step::Masked]);
 }
 
+/// T's vertices on two axes: 0.0 and −0.0, and the other way round, at the vertices 0 and 3.
+const FLAT: [f64; 8] = [0.0, -0.0, 2.5, -1.0, -3.0, 4.0, -0.0, 0.0];
+
+/// The bits of a box, least and greatest axis by axis.
+fn ends(of: Bounds) -> [u64; 6] {
+    let (low, high) = (of.least, of.greatest);
+    [low[0], high[0], low[1], high[1], low[2], high[2]].map(f64::to_bits)
+}
+
+#[test]
+fn boxes_by_the_bit() {
+    let mut book = loaded(40);
+    daybook::ask(&mut book, 1, 0).unwrap();
+    let high = [0.0, -0.0, -7.0, 2.5, -1.0, 8.0, -3.0, 4.0, 1e308, -0.0, 0.0, -7.0];
+    for (coordinates, axes, d, i, wanted) in [
+        (&FLAT[..], 2, 2, 0, [0.0, 2.5, -1.0, -0.0, 0.0, 0.0]),
+        (&FLAT[..], 2, 2, 1, [-3.0, 2.5, -1.0, 4.0, 0.0, 0.0]),
+        (&FLAT[..], 2, 1, 1, [0.0, 0.0, -0.0, -0.0, 0.0, 0.0]),
+        (&FLAT[..], 2, 0, 3, [-0.0, -0.0, 0.0, 0.0, 0.0, 0.0]),
+        (&high[..], 3, 2, 0, [0.0, 2.5, -1.0, -0.0, -7.0, 8.0]),
+        (&high[..], 3, 0, 2, [-3.0, -3.0, 4.0, 4.0, 1e308, 1e308]),
+    ] {
+        assert_eq!(daybook::box_of(&book, coordinates, axes, d, i).map(ends), Ok(wanted.map(f64::to_bits)));
+    }
+    let whole = Bounds { least: [-3.0, -1.0, -7.0], greatest: [2.5, 4.0, 1e308] };
+    assert_eq!(daybook::whole_box(&book, &high, 3), Ok(Some(whole)));
+    assert_eq!(daybook::whole_box(&book, &FLAT, 2).unwrap().map(ends), Some([-3.0, 2.5, -1.0, 4.0, 0.0, 0.0].map(f64::to_bits)));
+}
+
+#[test]
+fn points_nobody_uses_have_no_box() {
+    let mut t = T;
+    t[1] = 6; // N_0, which is 4 in T
+    let mut book = [7; 20];
+    daybook::load(&t, &mut book).unwrap();
+    let mut coordinates = FLAT.to_vec();
+    coordinates.extend([-90.0, 90.0, 1e300, -1e300]);
+    let whole = Bounds { least: [-3.0, -1.0, 0.0], greatest: [2.5, 4.0, 0.0] };
+    assert_eq!(daybook::whole_box(&book, &coordinates, 2), Ok(Some(whole)));
+    assert_eq!(daybook::box_of(&book, &coordinates, 2, 0, 4), Ok(Bounds { least: [-90.0, 90.0, 0.0], greatest: [-90.0, 90.0, 0.0] }));
+    coordinates[11] = f64::NAN;
+    assert_eq!(daybook::whole_box(&book, &coordinates, 2), Err(Refusal::NotFinite));
+    daybook::load(&[0x80, 2, 0, 0], &mut book).unwrap(); // two points and no cells
+    assert_eq!(daybook::whole_box(&book, &[1.0, 2.0, 3.0, 4.0], 2), Ok(None));
+}
+
+#[test]
+fn boxes_are_refused() {
+    let book = loaded(20);
+    let bad = [f64::INFINITY, f64::NEG_INFINITY, f64::NAN, -f64::NAN];
+    for (coordinates, axes, d, i, refusal) in [
+        (&FLAT[..], 2, 3, 0, Refusal::DimensionOver),
+        (&FLAT[..], 2, 1, 0, Refusal::NeedMissing),
+        (&FLAT[..], 2, 2, 2, Refusal::NoSuchEntity),
+        (&bad[..], 9, 0, 4, Refusal::NoSuchEntity),
+        (&bad[..], 4, 2, 1, Refusal::AxisCount),
+        (&bad[..], 1, 2, 1, Refusal::AxisCount),
+        (&bad[..], 2, 2, 1, Refusal::ListLength),
+        (&FLAT[..], 3, 2, 1, Refusal::ListLength),
+    ] {
+        assert_eq!(daybook::box_of(&book, coordinates, axes, d, i), Err(refusal));
+    }
+    assert_eq!([1, 2].map(|axes| daybook::whole_box(&book, &bad, axes)), [Err(Refusal::AxisCount), Err(Refusal::ListLength)]);
+    for (at, value) in bad.into_iter().enumerate() {
+        let mut coordinates = FLAT;
+        coordinates[2 * at] = value;
+        assert_eq!(daybook::box_of(&book, &coordinates, 2, 2, 1), Err(Refusal::NotFinite));
+        assert_eq!(daybook::whole_box(&book, &coordinates, 2), Err(Refusal::NotFinite));
+    }
+    assert_eq!(daybook::box_of(&[], &[], 2, 0, 0), Err(Refusal::FrameBroken));
+    assert_eq!(daybook::whole_box(&[], &[], 2), Err(Refusal::FrameBroken));
+    assert_eq!(Refusal::NotFinite.to_string(), "refused 27");
+}
+
 #[test]
 fn the_file_comes_back() {
     let mut bytes = [0xAA; 16];
@@ -302,6 +376,8 @@ fn a_refusal_says_where_the_book_is_broken() {
         assert_eq!(daybook::write(&book, &mut []), Err(refusal));
         assert_eq!(daybook::euler(&book), Err(refusal));
         assert_eq!(daybook::closures(&book, &[], &mut [], &mut [], &mut []), Err(refusal));
+        assert_eq!(daybook::box_of(&book, &[], 9, 9, 9), Err(refusal));
+        assert_eq!(daybook::whole_box(&book, &[], 9), Err(refusal));
         assert_eq!(refusal.to_string(), text);
     }
 }
@@ -325,9 +401,9 @@ fn numbers_are_the_papers() {
         Refusal::RowsBroken { key: 0, position: Position::Offset(0) }, Refusal::DimensionOver, Refusal::NoRoom, Refusal::AlreadyHeld,
         Refusal::NeedMissing, Refusal::NotHeld, Refusal::NoSuchEntity, Refusal::BufferTooShort,
         Refusal::NoSuchIndex, Refusal::PairsOff, Refusal::ListLength, Refusal::CountOutside, Refusal::CellTwice(0),
-        Refusal::CellsKept, Refusal::NumberDiffers,
+        Refusal::CellsKept, Refusal::NumberDiffers, Refusal::AxisCount, Refusal::NotFinite,
     ];
-    assert!(all.iter().map(|r| r.number()).eq(1..=25));
+    assert!(all.iter().map(|r| r.number()).eq(1..=27));
     assert_eq!(Refusal::RowsBrokenSomewhere.number(), 11);
     assert_eq!(Refusal::RowsBrokenSomewhere.to_string(), "refused 11");
 }

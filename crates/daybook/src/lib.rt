@@ -29,22 +29,27 @@
 // | 11  | the row rule is broken; for row and find, the row's own     | all but load, ask_list, |
 // |     | offsets alone; with where: a key and a position             | held_count              |
 // | 12  | d or e is over D; for close, D is 1                         | make, ask, drop, row,   |
-// |     |                                                             | find, close             |
+// |     |                                                             | find, close, box_of     |
 // | 13  | the used length afterwards would pass the book's length     | load, make, ask         |
 // | 14  | the relation is held already                                | make                    |
-// | 15  | something that is needed is not held                        | make, euler, close      |
+// | 15  | something that is needed is not held                        | make, euler, close,     |
+// |     |                                                             | box_of                  |
 // | 16  | the relation is not held                                    | drop, row, find         |
-// | 17  | i is N_d or more                                            | row, find               |
+// | 17  | i is N_d or more                                            | row, find, box_of       |
 // | 18  | the byte buffer is shorter than the file                    | write                   |
 // | 19  | j is N_e or more                                            | find                    |
 // | 20  | half a pair, over 16 pairs, or not one place a pair         | ask_list                |
-// | 21  | a lent list is not one place a vertex, edge or face         | close                   |
+// | 21  | a lent list is not one place a vertex, edge or face; for    | close, box_of,          |
+// |     | the boxes, not axes times N_0 long                          | whole_box               |
 // | 22  | a count is not from −32,768 to 32,767, nor 65,536           | close                   |
 // | 23  | a cell has the vertices of an earlier one; with the lowest  | load, before 9          |
 // |     | such cell                                                   |                         |
 // | 24  | the relation is D→0                                         | drop                    |
 // | 25  | d→0 has to be made, N_d is kept by another relation, and    | make, ask, before 13    |
 // |     | the number of entities found differs                        |                         |
+// | 26  | the axis count is not 2 or 3                                | box_of, whole_box,      |
+// |     |                                                             | before 21               |
+// | 27  | a coordinate is infinite or not a number                    | box_of, whole_box       |
 //
 // ask_list gives no other number as a call: what each of its asks is refused for stands among its answers.
 mod answers;
@@ -59,6 +64,11 @@ pub use answers::Listed;
 pub use answers::Made;
 pub use answers::asked_number;
 pub use asks::ask;
+pub use boxes::Bounds;
+pub use boxing::Boxed;
+pub use boxing::WholeBoxed;
+pub use boxing::box_of;
+pub use boxing::whole_box;
 pub use closing::Closed;
 pub use closing::close;
 pub use closing::closed_number;

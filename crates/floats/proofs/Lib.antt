@@ -1,1 +1,3 @@
 pub mod Fractions
+pub mod Ordered
+pub mod Furthest

@@ -20,7 +20,7 @@ use Rattle.rules.proofs.TrueRows.{Formed, entities-top, entities-mid, entity-in
 
 module _ (m : Mesh) (f : Formed m) where
   -- an entity lies in some cell
-  in-cell : (e i : ℕ) → 0 < e → e ≤ m .dims → i < number m e → (c : List ℕ) × In c (m .cells) × ((v : ℕ) → In v (entity m e i) → In v c)
+  pub in-cell : (e i : ℕ) → 0 < e → e ≤ m .dims → i < number m e → (c : List ℕ) × In c (m .cells) × ((v : ℕ) → In v (entity m e i) → In v c)
   in-cell e i p h l = go (cases (eqb e (m .dims)))
     where
       from-built : In (entity m e i) [] ⊎ ((c : List ℕ) × In c (m .cells) × In (entity m e i) (choose (e + 1) c)) → (c : List ℕ) × In c (m .cells) × ((v : ℕ) → In v (entity m e i) → In v c)

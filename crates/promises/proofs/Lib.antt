@@ -10,3 +10,6 @@ pub mod FaceEdges
 pub mod StepsAgree
 pub mod FacesCancel
 pub mod DroppedBack
+pub mod BoxOver
+pub mod Boxes
+pub mod BoxesNest

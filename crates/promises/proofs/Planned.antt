@@ -2,17 +2,20 @@
 use mathlib.Core.Path.{_≡_, refl, sym, ap, _∙_}
 use mathlib.Core.Bool.{Bool, true, false, cond, not, _&&_, _||_}
 use mathlib.Core.List.{List, [], _∷_}
-use Prim.Native.Nat.{ℕ, _+_, _^_, _≤_, _<_}
+use Prim.Native.Nat.{ℕ, _+_, _*_, _^_, _≤_, _<_}
 use native.Mathlib.Omega.{arith}
 use lib.ListN.{length, getD, take}
 use lib.Dec.{eqb, ltb, leb}
 use lib.IntN.{ℤ}
+use lib.Ieee.{Float}
+use lib.Ieee.Scale.{finite}
 use borrow.Author.Tests.{ltb-false, leb-false, le-leb, eqb-true}
 use Rattle.rules.specs.Lists.{allOf, filled}
 use Rattle.rules.specs.Book.{count, key, named, held, offset, total, needs, frameRight, rowsRight}
 use Rattle.rules.specs.Calls.{rule, firstBroken, added, asked, makeRules, makeNumber, askRules, askNumber, askWords, rowRules, rowNumber, findNumber, writeRules, writeNumber, eulerRules, eulerNumber, heldRules, heldNumber, dropRules, dropNumber}
 use Rattle.rules.specs.Phases.{counted}
 use Rattle.rules.specs.Closures.{lengthsRight, closeRules, closeNumber}
+use Rattle.rules.specs.Boxes.{coordinateRules, boxRules, boxNumber, wholeRules, wholeNumber}
 use Rattle.rules.specs.Truth.{Mesh, number, trueBook}
 use Rattle.rules.specs.Steps.{maskWith}
 use Rattle.rules.proofs.Tests.{and-off}
@@ -25,15 +28,16 @@ use Rattle.rules.proofs.RowRule.{offset-rises, offset-total}
 use Rattle.rules.proofs.Needs.{key-div}
 use Rattle.rules.proofs.Asked.{asked-is}
 use Rattle.rules.proofs.AskedMask.{key-mask}
-use Rattle.rules.proofs.TrueRows.{number-top}
+use Rattle.rules.proofs.TrueRows.{number-low, number-top}
 use Rattle.rules.proofs.TrueBook.{book-mask, book-dim, true-take, count-first}
 use Rattle.rules.proofs.TrueMake.{true-added}
 use Rattle.rules.proofs.TrueAsk.{true-asked}
 use Rattle.rules.proofs.TrueFound.{none-differs}
-use Rattle.promises.specs.Plan.{wordsFor, makePlan, askPlan, maskAfter, dropPlan, rowPlan, findPlan, writePlan, eulerPlan, closePlan}
+use Rattle.promises.specs.Plan.{wordsFor, makePlan, askPlan, maskAfter, dropPlan, rowPlan, findPlan, writePlan, eulerPlan, closePlan, coordinatePlan, boxPlan, wholePlan}
 use Rattle.promises.specs.Demand.{Holds, Planned}
 use Rattle.promises.proofs.Kept.{Kept, kept-held, kept-dim, kept-mask, kept-right, kept-alike, reached-kept}
 use Rattle.promises.proofs.DemandThree.{first-count, second-count}
+use Rattle.promises.proofs.Euler.{vertices-true}
 
 -- ---- a kept book
 module _ (m : Mesh) (ws : List ℕ) (k : Kept m ws) where
@@ -203,11 +207,33 @@ module _ (m : Mesh) (ws : List ℕ) (k : Kept m ws) where
       go true p false q = refl
       go false p y q = refl
 
+  -- boxes
+  vertices : count ws 0 ≡ number m 0
+  vertices = vertices-true m ws k ∙ sym (number-low m)
+
+  box-planned : (coordinates : List Float) (axes d i : ℕ) → boxNumber ws coordinates axes d i ≡ boxPlan m (k .mask) coordinates axes d i
+  unfolding boxNumber boxRules boxPlan coordinateRules coordinatePlan firstBroken
+  box-planned coordinates axes d i = rw (frame, rows, kept-dim m ws k, kept-held m ws k (key d 0), vertices) (go (ltb 0 d) refl (named (k .mask) (key d 0)) refl)
+    where
+      lent : ℕ
+      lent = cond (not (eqb axes 2 || eqb axes 3)) 26 (cond (not (eqb (length coordinates) (axes * number m 0))) 21 (cond (not (allOf finite coordinates)) 27 0))
+
+      go : (x : Bool) → ltb 0 d ≡ x → (o : Bool) → named (k .mask) (key d 0) ≡ o
+          → _≡_ {A = ℕ} (cond (ltb (m .dims) d) 12 (cond (x && not o) 15 (cond (leb (count ws d) i) 17 lent)))
+          (cond (ltb (m .dims) d) 12 (cond (x && not o) 15 (cond (leb (number m d) i) 17 lent)))
+      go true p true q = rw (first-count m ws k d 0 (omega arith) (kept-held m ws k (key d 0) ∙ q))
+      go true p false q = refl
+      go false p o q = let e : d ≡ 0 = omega (arith, ltb-false 0 d p) in rw (e, vertices)
+
+  whole-planned : (coordinates : List Float) (axes : ℕ) → wholeNumber ws coordinates axes ≡ wholePlan m coordinates axes
+  unfolding wholeNumber wholeRules wholePlan coordinateRules coordinatePlan firstBroken
+  whole-planned coordinates axes = rw (frame, rows, vertices)
+
   pub same-mask : (mask : ℕ) → Holds ws mask → mask ≡ k .mask
   same-mask mask h = masks-equal 16 mask (k .mask) (h .small) (k .proper .small) (λ j l. h .names j l ∙ kept-held m ws k j)
 
 pub planned : Planned
-planned m ws r mask h d e i j bs counts closures steps bytes =
+planned m ws r mask h d e i j bs counts closures steps bytes coordinates axes =
     let k = reached-kept m ws r in
     rw (same-mask m ws k mask h)
-    (make-planned m ws k d e, ask-planned m ws k d e, drop-planned m ws k d e, row-planned m ws k d e i, find-planned m ws k d e i j, write-planned m ws k bs, euler-planned m ws k, held-planned m ws k, close-planned m ws k counts closures steps bytes)
+    (make-planned m ws k d e, ask-planned m ws k d e, drop-planned m ws k d e, row-planned m ws k d e i, find-planned m ws k d e i j, write-planned m ws k bs, euler-planned m ws k, held-planned m ws k, close-planned m ws k counts closures steps bytes, box-planned m ws k coordinates axes d i, whole-planned m ws k coordinates axes)

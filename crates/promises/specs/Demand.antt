@@ -6,14 +6,16 @@ use Prim.Native.Nat.{ℕ, _+_, _-_, _*_, _/_, _%_, _^_, _≤_, _<_}
 use lib.ListN.{length, getD, take}
 use lib.Dec.{eqb}
 use lib.IntN.{ℤ}
+use lib.Ieee.{Float}
 use Rattle.rules.specs.Lists.{anyOf, allOf, has, inside, sorted}
 use Rattle.rules.specs.File.{fileDim, fileVertices, cellsInFile}
 use Rattle.rules.specs.Book.{key, named, held, count, rowOf, rowsOf, frameRight, rowsRight, needs}
 use Rattle.rules.specs.Calls.{loadNumber, loadWords, makeNumber, makeWords, askNumber, askWords, answersOf, wordsOf, listNumber, listAnswers, listWords, rowNumber, rowPart, findNumber, findFound, written, writeNumber, eulerNumber, alternating, eulerOf, heldNumber, dropNumber, dropWords}
 use Rattle.rules.specs.Closures.{closeNumber}
+use Rattle.rules.specs.Boxes.{boxNumber, wholeNumber}
 use Rattle.rules.specs.Truth.{Mesh, meshOf, number, incident, trueRows, trueEuler, trueBook}
 use Rattle.rules.specs.Sequence.{State, askList, after, afterAll, asksOf, Reached}
-use Rattle.promises.specs.Plan.{wordsFor, makePlan, askPlan, answersPlan, rowPlan, findPlan, writePlan, eulerPlan, closePlan, dropPlan}
+use Rattle.promises.specs.Plan.{wordsFor, makePlan, askPlan, answersPlan, rowPlan, findPlan, writePlan, eulerPlan, closePlan, boxPlan, wholePlan, dropPlan}
 
 -- ==== demand 3, part by part
 -- every relation held is the true incidence of the last accepted mesh
@@ -72,8 +74,8 @@ Alike = (m : Mesh) (ws vs : List ℕ) → Reached m ws → Reached m vs → leng
 
 -- the frame rule and the row rule hold, and no call gives 10, 11 or 25
 abbrev pub NothingElse : Type 0
-NothingElse = (m : Mesh) (ws : List ℕ) → Reached m ws → (frameRight ws ≡ true) × (rowsRight ws ≡ true) × ((d e i j : ℕ) (bs : List ℕ) (counts : List ℤ) (closures steps bytes : ℕ)
-    → allOf (λ n. not (eqb n 10 || eqb n 11 || eqb n 25)) (makeNumber ws d e ∷ askNumber ws d e ∷ dropNumber ws d e ∷ rowNumber ws d e i ∷ findNumber ws d e i j ∷ writeNumber ws bs ∷ eulerNumber ws ∷ heldNumber ws ∷ closeNumber ws counts closures steps bytes ∷ []) ≡ true)
+NothingElse = (m : Mesh) (ws : List ℕ) → Reached m ws → (frameRight ws ≡ true) × (rowsRight ws ≡ true) × ((d e i j : ℕ) (bs : List ℕ) (counts : List ℤ) (closures steps bytes : ℕ) (coordinates : List Float) (axes : ℕ)
+    → allOf (λ n. not (eqb n 10 || eqb n 11 || eqb n 25)) (makeNumber ws d e ∷ askNumber ws d e ∷ dropNumber ws d e ∷ rowNumber ws d e i ∷ findNumber ws d e i j ∷ writeNumber ws bs ∷ eulerNumber ws ∷ heldNumber ws ∷ closeNumber ws counts closures steps bytes ∷ boxNumber ws coordinates axes d i ∷ wholeNumber ws coordinates axes ∷ []) ≡ true)
 
 -- nor does any answer of a list of asks
 abbrev pub ListedFine : Type 0
@@ -86,7 +88,7 @@ pub record Holds (ws : List ℕ) (mask : ℕ) : Type 0 where
 
 -- each call's number is the one planned from the book's length, the mesh and the set of relations held
 abbrev pub Planned : Type 0
-Planned = (m : Mesh) (ws : List ℕ) → Reached m ws → (mask : ℕ) → Holds ws mask → (d e i j : ℕ) (bs : List ℕ) (counts : List ℤ) (closures steps bytes : ℕ)
+Planned = (m : Mesh) (ws : List ℕ) → Reached m ws → (mask : ℕ) → Holds ws mask → (d e i j : ℕ) (bs : List ℕ) (counts : List ℤ) (closures steps bytes : ℕ) (coordinates : List Float) (axes : ℕ)
     → (makeNumber ws d e ≡ makePlan (length ws) m mask d e)
     × (askNumber ws d e ≡ askPlan (length ws) m mask d e)
     × (dropNumber ws d e ≡ dropPlan m mask d e)
@@ -96,6 +98,8 @@ Planned = (m : Mesh) (ws : List ℕ) → Reached m ws → (mask : ℕ) → Holds
     × (eulerNumber ws ≡ eulerPlan m mask)
     × (heldNumber ws ≡ 0)
     × (closeNumber ws counts closures steps bytes ≡ closePlan m mask counts closures steps bytes)
+    × (boxNumber ws coordinates axes d i ≡ boxPlan m mask coordinates axes d i)
+    × (wholeNumber ws coordinates axes ≡ wholePlan m coordinates axes)
 
 -- and so is each answer of a list of asks
 abbrev pub ListPlanned : Type 0

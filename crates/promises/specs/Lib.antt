@@ -1,3 +1,4 @@
 pub mod Plan
 pub mod Demand
 pub mod Faces
+pub mod Boxes

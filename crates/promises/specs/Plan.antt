@@ -1,15 +1,17 @@
 -- What a caller can plan by: each call's number, from the book's length, the mesh and the set of relations held alone. No word of a book is in it.
 use mathlib.Core.Bool.{cond, not, _&&_, _||_}
 use mathlib.Core.List.{List, [], _∷_}
-use Prim.Native.Nat.{ℕ, _+_, _^_}
+use Prim.Native.Nat.{ℕ, _+_, _*_, _^_}
 use lib.ListN.{length}
 use lib.Dec.{eqb, ltb, leb}
 use lib.IntN.{ℤ}
+use lib.Ieee.{Float}
+use lib.Ieee.Scale.{finite}
 use Rattle.rules.specs.Lists.{allOf}
 use Rattle.rules.specs.File.{lengthOf}
 use Rattle.rules.specs.Book.{key, named, needs}
 use Rattle.rules.specs.Steps.{maskWith}
-use Rattle.rules.specs.Calls.{rule, firstBroken}
+use Rattle.rules.specs.Calls.{Rule, rule, firstBroken}
 use Rattle.rules.specs.Phases.{counted}
 use Rattle.rules.specs.Truth.{Mesh, number, trueBook}
 
@@ -78,3 +80,25 @@ closePlan m mask counts closures steps bytes =
     ∷ rule (not (allOf counted counts)) 22
     ∷ [])
     0
+
+-- lent coordinates: 26 if the axes are neither 2 nor 3, else 21 if there is not one float for each axis of each vertex, else 27 if one is infinite or not a number
+unfoldable pub coordinatePlan : Mesh → List Float → ℕ → List (Rule ℕ)
+coordinatePlan m coordinates axes =
+    rule (not (eqb axes 2 || eqb axes 3)) 26
+    ∷ rule (not (eqb (length coordinates) (axes * number m 0))) 21
+    ∷ rule (not (allOf finite coordinates)) 27
+    ∷ []
+
+-- the box of (d, i): 12 if d is over D, else 15 if d is over 0 and d→0 is not held, else 17 if there is no entity (d, i), else as the lent coordinates
+unfoldable pub boxPlan : Mesh → ℕ → List Float → ℕ → ℕ → ℕ → ℕ
+boxPlan m mask coordinates axes d i =
+    firstBroken
+    (rule (ltb (m .dims) d) 12
+    ∷ rule (ltb 0 d && not (named mask (key d 0))) 15
+    ∷ rule (leb (number m d) i) 17
+    ∷ coordinatePlan m coordinates axes)
+    0
+
+-- the box of the whole mesh: as the lent coordinates
+unfoldable pub wholePlan : Mesh → List Float → ℕ → ℕ
+wholePlan m coordinates axes = firstBroken (coordinatePlan m coordinates axes) 0

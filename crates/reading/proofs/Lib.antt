@@ -1,5 +1,3 @@
-pub mod CellsPart
-pub mod Marks
 pub mod Writing
 pub mod RowCases
 pub mod NumberCases

@@ -1,22 +1,19 @@
--- The numbers of Euler and Held count, case by case; the two sums and their bounds; and how many keys are held, one key more.
-use mathlib.Core.Path.{_≡_, refl, sym}
+-- The numbers of Euler and Held count, case by case; and the two sums and their bounds.
+use mathlib.Core.Path.{_≡_, sym}
 use mathlib.Core.Bool.{Bool, true, false, not, _&&_}
 use mathlib.Core.List.{List}
 use Prim.Native.Nat.{ℕ, _+_, _≤_, _<_}
 use native.Mathlib.Nat.{add-zero}
-use native.Mathlib.Numerals.{add-one}
 use native.Mathlib.Omega.{arith}
-use lib.ListN.{length, length-append}
+use lib.ListN.{length}
 use lib.Dec.{ltb}
 use borrow.Author.Tests.{le-leb, lt-leb}
-use Rattle.rules.specs.Lists.{upTo, keep}
 use Rattle.rules.specs.Book.{dim, count, key, held, rowsOf, frameRight, rowsRight}
 use Rattle.rules.specs.Calls.{firstBroken, eulerRules, eulerNumber, usedVertices, heldRules, heldNumber}
 use Rattle.rules.proofs.FrameRule.{limit, framed, count-limit}
-use Rattle.rules.proofs.First.{keep-last}
 use Rattle.rules.proofs.Members.{members-most}
 use Rattle.reading.specs.Parts.{evens, odds}
-use Rattle.reading.proofs.Marks.{vertices-low}
+use Rattle.cells.proofs.Marks.{vertices-low}
 
 -- d→0 is missing, where d < D
 unfoldable pub missing : List ℕ → ℕ → Bool
@@ -80,14 +77,3 @@ module _ (ws : List ℕ) where
     pub odds-low : 3 ≤ dim ws → count ws 1 + count ws 3 ≤ 28672
     unfolding limit
     odds-low l = omega (arith, count-limit ws (framed ws f) 1 (omega arith), count-limit ws (framed ws f) 3 l)
-
--- how many numbers below k pass: none at first, then with one number more
-pub kept-none : (p : ℕ → Bool) → 0 ≡ length (keep p (upTo 0))
-unfolding keep upTo
-kept-none p = refl
-
-pub kept-more : (p : ℕ → Bool) (k n : ℕ) → n ≡ length (keep p (upTo k)) → p k ≡ true → n + 1 ≡ length (keep p (upTo (k + 1)))
-kept-more p k n e h = rw (add-one k, keep-last p k, length-append, h) (omega arith)
-
-pub kept-same : (p : ℕ → Bool) (k n : ℕ) → n ≡ length (keep p (upTo k)) → p k ≡ false → n ≡ length (keep p (upTo (k + 1)))
-kept-same p k n e h = rw (add-one k, keep-last p k, length-append, h) (omega arith)

@@ -1,6 +1,5 @@
-// Calls that leave the book as it is: Row, Find, Write, the Euler number and the held count. `daybook` has them beside Load, Make, Ask, the list of asks, Drop and phase closures.
+// Calls that leave the book as it is: Row, Find, Write, the Euler number and the held count. `daybook` has them beside Load, Make, Ask, the list of asks, Drop, phase closures and boxes.
 mod answers;
-mod cells;
 mod finds;
 mod numbers;
 mod parts;

@@ -1,7 +1,6 @@
 // The Euler number and the held count.
 use crate::answers::Counted;
 use crate::answers::EulerNumber;
-use crate::cells::used_vertices;
 use rows::Rows;
 ghost use mathlib.Core.Path.{_≡_};
 ghost use mathlib.Core.Bool.{true, not, _&&_};
@@ -30,7 +29,7 @@ fn even_sum(book: &[u32]) -> u32
     requires { ⌜ (frameRight (now book) ≡ true) × (rowsRight (now book) ≡ true) ⌝ }
     ensures { λ r. ⌜ r ≡ evens (now (book .entry)) ⌝ }
 {
-    let n = used_vertices(book);
+    let n = cells::used_vertices(book);
     if book::dim(book) < 2 {
         return n;
     }

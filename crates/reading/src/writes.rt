@@ -1,6 +1,5 @@
 // Write: the day file of the book's mesh.
 use crate::answers::Written;
-use crate::cells::cells;
 use book::Place;
 use dayfile::Header;
 use rows::Rows;
@@ -17,7 +16,11 @@ fn put_file(book: &[u32], bytes: &mut [u8]) -> usize
     requires { ⌜ (frameRight (now book) ≡ true) × (rowsRight (now book) ≡ true) ⌝ }
     ensures { λ r. ⌜ FilePut (now (book .entry)) (now (bytes .entry)) r (now (bytes .exit)) ⌝ }
 {
-    dayfile::write(Header(book::word(book, Place(0))), cells(book), bytes)
+    dayfile::write(
+        Header(book::word(book, Place(0))),
+        cells::cells(book),
+        bytes,
+    )
 }
 
 // Writes the book's file, each cell's vertices ascending, and gives its length; later bytes stay as they were. Refusals: 10, 11, 18.

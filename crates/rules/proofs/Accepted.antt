@@ -1,12 +1,15 @@
 -- What an accepted call has passed: where the number is 0, no rule of its list is broken.
 use mathlib.Core.Path.{_≡_, refl, sym, ap, _∙_}
 use mathlib.Core.Bool.{Bool, true, false, cond, not, _&&_, _||_, true≢false}
+use mathlib.Core.Logic.{_⊎_, inl, inr}
 use mathlib.Core.List.{List, [], _∷_, _++_, map}
 use Prim.Native.Nat.{ℕ, zero, suc, _*_, _/_, _%_, _≤_, _<_}
 use native.Mathlib.Omega.{arith}
 use lib.ListN.{length, length-append, length-replicate}
 use lib.Dec.{eqb, ltb, leb}
 use lib.IntN.{ℤ}
+use lib.Ieee.{Float}
+use lib.Ieee.Scale.{finite}
 use borrow.Author.Tests.{not-true, not-false, ltb-true, ltb-false, leb-false, eqb-true, eqb-false, eq-eqb, ne-eqb, lt-ltb, le-ltb}
 use Rattle.rules.specs.Lists.{upTo, anyOf, allOf, repeats, sorted, filled}
 use Rattle.rules.specs.File.{fileDim, fileVertices, fileCells, fileSpare, lengthOf, cellsInFile, outOf, twice, padSet}
@@ -14,7 +17,8 @@ use Rattle.rules.specs.Book.{dim, count, key, held, needs, rowOf, frameR
 use Rattle.rules.specs.Calls.{Rule, firstBroken, loaded, fileRules, loadRules, loadNumber, loadWords, added, makeRules, makeNumber, makeWords, asked, askRules, askNumber, askWords, wordsOf, pairsOff, listRules, listNumber, listWords, rowRules, rowNumber, rowPart, foundIn, readIn, findRules, findNumber, findFound, findRead, differs, hasToMake, dropped, dropRules, dropNumber, dropWords, eulerRules, eulerNumber}
 use Rattle.rules.specs.Phases.{counted}
 use Rattle.rules.specs.Closures.{lengthsRight, closeRules, closeNumber}
-use Rattle.rules.proofs.Tests.{left, right, neither, none-of}
+use Rattle.rules.specs.Boxes.{coordinateRules, boxRules, boxNumber, wholeRules, wholeNumber}
+use Rattle.rules.proofs.Tests.{left, right, or-cases, neither, none-of}
 use Rattle.rules.proofs.Keep.{upTo-of}
 
 -- where the answer is 0 and no rule's answer is, no rule was broken
@@ -345,4 +349,61 @@ closes ws counts closures steps bytes z =
       an-edge = search (left, right, eqb-true) depth 12;
       a-byte = search (left, right, eqb-true) depth 12;
       lent = c;
+    }
+
+-- ---- boxes
+-- the lent coordinates: two or three finite floats a vertex
+pub record Lent (ws : List ℕ) (coordinates : List Float) (axes : ℕ) : Type 0 where
+  pub across : (axes ≡ 2) ⊎ (axes ≡ 3)
+  pub a-vertex : length coordinates ≡ axes * count ws 0
+  pub numbers : allOf finite coordinates ≡ true
+
+lent : (ws : List ℕ) (coordinates : List Float) (axes : ℕ) → allOf (λ r. not (r .broken)) (coordinateRules ws coordinates axes) ≡ true → Lent ws coordinates axes
+unfolding coordinateRules allOf
+lent ws coordinates axes u =
+    let a : (eqb axes 2 || eqb axes 3) ≡ true = search (left, right, not-true, not-false) depth 9 in
+    let l : eqb (length coordinates) (axes * count ws 0) ≡ true = search (left, right, not-true, not-false) depth 9 in
+    record {
+      across = elim (or-cases (eqb axes 2) (eqb axes 3) a) [ inl x ↦ inl (eqb-true axes 2 x) | inr y ↦ inr (eqb-true axes 3 y) ];
+      a-vertex = eqb-true _ _ l;
+      numbers = search (left, right, not-true, not-false) depth 9;
+    }
+
+pub record Boxes (ws : List ℕ) (coordinates : List Float) (axes d i : ℕ) : Type 0 where
+  pub frame : frameRight ws ≡ true
+  pub rows : rowsRight ws ≡ true
+  pub first : d ≤ dim ws
+  pub there : 0 < d → held ws (key d 0) ≡ true
+  pub below : i < count ws d
+  pub lent : Lent ws coordinates axes
+
+pub boxes : (ws : List ℕ) (coordinates : List Float) (axes d i : ℕ) → boxNumber ws coordinates axes d i ≡ 0 → Boxes ws coordinates axes d i
+unfolding boxNumber boxRules allOf
+boxes ws coordinates axes d i z =
+    let u = unbroken (boxRules ws coordinates axes d i) (unfold coordinateRules in refl) z in
+    let h : not (ltb 0 d && not (held ws (key d 0))) ≡ true = search (left, right) depth 9 in
+    let c : allOf (λ r. not (r .broken)) (coordinateRules ws coordinates axes) ≡ true = search (left, right) depth 9 in
+    record {
+      frame = search (left, right, not-true, not-false) depth 9;
+      rows = search (left, right, not-true, not-false) depth 9;
+      first = search (left, right, not-true, ltb-false) depth 9;
+      there = λ l. not-false _ (rw (lt-ltb 0 d l) at (not-true (ltb 0 d && not (held ws (key d 0))) h));
+      below = search (left, right, not-true, leb-false) depth 9;
+      lent = lent ws coordinates axes c;
+    }
+
+pub record Wholes (ws : List ℕ) (coordinates : List Float) (axes : ℕ) : Type 0 where
+  pub frame : frameRight ws ≡ true
+  pub rows : rowsRight ws ≡ true
+  pub lent : Lent ws coordinates axes
+
+pub wholes : (ws : List ℕ) (coordinates : List Float) (axes : ℕ) → wholeNumber ws coordinates axes ≡ 0 → Wholes ws coordinates axes
+unfolding wholeNumber wholeRules allOf
+wholes ws coordinates axes z =
+    let u = unbroken (wholeRules ws coordinates axes) (unfold coordinateRules in refl) z in
+    let c : allOf (λ r. not (r .broken)) (coordinateRules ws coordinates axes) ≡ true = search (left, right) depth 9 in
+    record {
+      frame = search (left, right, not-true, not-false) depth 9;
+      rows = search (left, right, not-true, not-false) depth 9;
+      lent = lent ws coordinates axes c;
     }

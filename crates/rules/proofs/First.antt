@@ -1,12 +1,13 @@
--- What a test keeps of the numbers below n: the last, and the first that passes with the rest.
+-- What a test keeps of the numbers below n, and how many: the last, and the first that passes with the rest.
 use mathlib.Core.Path.{_≡_, refl, sym, ap, _∙_}
 use mathlib.Core.Bool.{Bool, true, false, cond}
 use mathlib.Core.List.{List, [], _∷_, _++_, append-assoc, append-nil}
 use mathlib.Core.Logic.{⊎-elim}
-use Prim.Native.Nat.{ℕ, zero, suc, _≤_, _<_}
+use Prim.Native.Nat.{ℕ, zero, suc, _+_, _≤_, _<_}
 use native.Mathlib.Nat.{not-suc-le-zero}
+use native.Mathlib.Numerals.{add-one}
 use native.Mathlib.Omega.{arith}
-use lib.ListN.{length}
+use lib.ListN.{length, length-append}
 use Rattle.rules.specs.Lists.{upTo, keep}
 use Rattle.rules.proofs.Compared.{lt-or-le}
 use Rattle.rules.proofs.Keep.{keep-agree, keep-short, upTo-is}
@@ -39,6 +40,17 @@ keep-none p (suc n) h =
     let one : keep p (upTo n) ≡ [] = keep-none p n (λ k l. h k (omega arith)) in
     let last : p n ≡ false = h n (omega arith) in
     keep-last p n ∙ (rw (one, last))
+
+-- how many numbers below k pass: none at first, then with one number more
+pub kept-none : (p : ℕ → Bool) → 0 ≡ length (keep p (upTo 0))
+unfolding keep upTo
+kept-none p = refl
+
+pub kept-more : (p : ℕ → Bool) (k n : ℕ) → n ≡ length (keep p (upTo k)) → p k ≡ true → n + 1 ≡ length (keep p (upTo (k + 1)))
+kept-more p k n e h = rw (add-one k, keep-last p k, length-append, h) (omega arith)
+
+pub kept-same : (p : ℕ → Bool) (k n : ℕ) → n ≡ length (keep p (upTo k)) → p k ≡ false → n ≡ length (keep p (upTo (k + 1)))
+kept-same p k n e h = rw (add-one k, keep-last p k, length-append, h) (omega arith)
 
 -- f is false below j, and g is f after j and false elsewhere
 pub record First (f g : ℕ → Bool) (j : ℕ) : Type 0 where

@@ -7,7 +7,7 @@ use lib.ListN.{length}
 use Rattle.rules.specs.Lists.{upTo, keep}
 use Rattle.rules.specs.Book.{held, keysHeld}
 use Rattle.rules.specs.Calls.{heldCount}
-use Rattle.reading.proofs.NumberCases.{kept-none, kept-more, kept-same}
+use Rattle.rules.proofs.First.{kept-none, kept-more, kept-same}
 use Rattle.reading.proofs.numbers.keys_held.Statement.{statement}
 use Rattle.reading.proofs.numbers.keys_held.Tie as tie
 

@@ -1,0 +1,2 @@
+pub mod CellsPart
+pub mod Marks
