@@ -277,6 +277,49 @@ static void compare_files(const Named &m) {
     must(ours == theirs && length == ours.size(), "the two programs write different files");
 }
 
+// The same mesh with every second cell spoiled, by turns: a vertex out of range, where one can be, or else twice; a vertex twice; the cell before it again, its vertices turned about.
+static Named spoiled(Named m) {
+    for (size_t c = 1; c < m.cells.size(); c += 2) {
+        auto &cell = m.cells[c];
+        if (c % 6 == 1 && m.points < 8192) cell.back() = m.points;
+        else if (c % 6 == 5) cell.assign(m.cells[c - 1].rbegin(), m.cells[c - 1].rend());
+        else cell.front() = cell.back();
+    }
+    return m;
+}
+
+// The same mesh with every cell the first one again.
+static Named repeated(Named m) {
+    for (auto &cell : m.cells) cell = m.cells[0];
+    return m;
+}
+
+// A salvage, lent as many bytes as the file has and two words for each cell of its head.
+static void compare_salvage(const Named &m, const std::string &what, const std::vector<uint8_t> &file, size_t dropped) {
+    std::vector<uint8_t> ours(file.size(), 7), theirs = ours;
+    std::vector<uint32_t> listed(2 * m.cells.size(), 7), listed_plainly = listed;
+    plain::Salvaged said{};
+    size_t length = 0, count = 0;
+    uint32_t spare = 7, pad = 7, wrong_length = 7;
+    auto nothing = [] { return 0; };
+    auto salvage = [&](int) {
+        must(daybook_salvage(file.data(), file.size(), ours.data(), ours.size(), listed.data(), listed.size(), &length, &count, &spare, &pad, &wrong_length) == 0, "salvage");
+    };
+    auto took = both(nothing, salvage, [&](int) { must(plain::salvage(file, theirs, listed_plainly, said) == 0, "plain salvage"); }, 9);
+    line(m, what, listed.size(), took.first, took.second);
+    must(ours == theirs && listed == listed_plainly, "the two programs save different cells");
+    must(length == said.length && count == said.dropped && count == dropped, "the two programs drop different numbers of cells");
+    must(spare == said.spare && pad == said.pad && wrong_length == said.wrong_length, "the two programs say different things of a file");
+}
+
+// A salvage of a mesh's file as it is, of the same cut in the middle, and of one with every second cell spoiled.
+static void compare_salvages(const Named &m) {
+    const auto file = file_of(m), half = std::vector<uint8_t>(file.begin(), file.begin() + file.size() / 2);
+    compare_salvage(m, "salvage", file, 0);
+    compare_salvage(m, "its half", half, m.cells.size() - (half.size() - 4) * 8 / (13 * (m.dim + 1)));
+    compare_salvage(m, "spoiled", file_of(spoiled(m)), m.cells.size() / 2);
+}
+
 // Counts all over the turn; about each sixteenth is masked, and as many are 0 or -32,768, so that there are steps of 0 and of half a turn.
 static std::vector<int32_t> counts_of(const Named &m) {
     uint32_t last = 7;
@@ -459,12 +502,16 @@ int main() {
     for (const Named &m : meshes) compare_closures(m);
     // boxes, on a book that has only been loaded
     for (const Named &m : meshes) compare_boxes(m);
+    // salvages, without a book; the words are those of the list of cells dropped
+    for (const Named &m : meshes) compare_salvages(m);
+    compare_salvage(meshes[0], "repeated", file_of(repeated(meshes[0])), meshes[0].cells.size() - 1);
     // from a sixteenth of the size to the whole
     for (unsigned n : {11, 22, 45}) compare(sheet(n), "all", {}, relations(sheet(n)), 0, 5);
     for (unsigned k : {1, 2, 5, 10}) compare(box(8, 8, k), "all", {}, relations(box(8, 8, k)), 0, 5);
     for (unsigned n : {256, 1024, 4096}) compare(scattered(n, 2 * n), "all", {}, relations(scattered(n, 2 * n)), 0, 5);
     for (unsigned n : {11, 22, 45}) compare_closures(sheet(n));
     for (unsigned n : {11, 22, 45}) compare_boxes(sheet(n));
+    for (unsigned n : {11, 22, 45}) compare_salvages(sheet(n));
     // what a lent word costs that no relation needs
     for (size_t spare : {0, 1 << 18, 1 << 20}) compare(sheet(45), "0->2", {}, {{0, 2}}, spare, 5);
     // what a row or a search in one costs does not depend on the book

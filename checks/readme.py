@@ -1,7 +1,7 @@
 #!/usr/bin/env python3
 """Runs the commands that README.md shows with their output, and holds the output to what stands there.
 
-A block shows commands behind '$ ' and below each what it prints. CC_X86 names the compiler that stands in for `cc`, EMULATOR the words that
+A block shows commands behind '$ ' and below each what it prints, on standard error too. CC_X86 names the compiler that stands in for `cc`, EMULATOR the words that
 run what it makes (checks/setup sets both); where EMULATOR is not empty the program is linked statically.
 """
 
@@ -25,15 +25,15 @@ def main():
     compiler, run = os.environ.get("CC_X86", "cc"), os.environ.get("EMULATOR", "")
     with open(os.path.join(TOP, "README.md")) as page:
         shown = list(blocks(page.read()))
-    if len(shown) < 10:
-        sys.exit("README.md shows %d commands: there should be ten" % len(shown))
+    if len(shown) < 13:
+        sys.exit("README.md shows %d commands: there should be thirteen" % len(shown))
     for command, output in shown:
         words = command
         if words.startswith("cc "):
             words = compiler + (" -static" if run else "") + words[2:]
         elif words.startswith("target/") and run:
             words = run + " " + words
-        got = subprocess.run(words, shell=True, cwd=TOP, stdout=subprocess.PIPE, check=True).stdout.decode()
+        got = subprocess.run(words, shell=True, cwd=TOP, stdout=subprocess.PIPE, stderr=subprocess.STDOUT, check=True).stdout.decode()
         if got != output:
             sys.exit("README.md: `%s` prints\n%sand the page has\n%s" % (command, got, output))
     print("README.md: %d commands do what the page shows" % len(shown))

@@ -14,6 +14,8 @@
  *   'P' n f s m, the lists  phase closures: n counts, and f closures, s steps (8 bytes each) and m bytes as they are before it
  *   'X' n a d i, the lists  the box of entity i of dimension d: n coordinates (8 bytes each) of a axes, and six ends as they are before it
  *   'Y' n a, the lists      the box of the whole mesh: the same, and behind the ends the place for whether there is one (4 bytes)
+ *   'S' n o l, the lists    salvage: a file of n bytes, and o bytes of output and l numbers for the cells dropped as they are before it; behind
+ *                           them the places for the length, the count, spare, pad and wrong_length (8, 8, 4, 4 and 4 bytes)
  *   'C'                     a checksum only
  *
  * Behind each letter stands what the places for a key (4 bytes) and a position (8 bytes) hold before the call.
@@ -26,6 +28,8 @@
  * second those of the closures (its lower half) and of the steps (its upper half).
  * For a box the byte buffer is the six ends, and the first out place a checksum of the coordinates; for that of the whole mesh the
  * lower half of the second out place is what the place for whether there is one holds.
+ * For a salvage the byte buffer is the output, the first out place has checksums of the file (its lower half) and of the cells dropped (its
+ * upper half), and the lower half of the second out place is a checksum of its five places, one after another.
  */
 #include "daybook.h"
 #include <stdio.h>
@@ -94,6 +98,7 @@ int main(void) {
     crc_table();
     while ((call = getchar()) != EOF) {
         struct lent bytes = lend(0), pairs = lend(0), counts = lend(0), closures = lend(0), steps = lend(0), coordinates = lend(0), some = lend(0);
+        struct lent file = lend(0), dropped = lend(0), said[5] = {lend(0), lend(0), lend(0), lend(0), lend(0)};
         struct lent place[2] = {lend(0), lend(0)};
         take(&place[0], 4), take(&place[1], 8);
         uint32_t *key = (uint32_t *)at(place[0]);
@@ -196,13 +201,26 @@ int main(void) {
             memcpy(out + 1, at(some), 4);
             break;
         }
+        case 'S': {
+            unsigned char all[28], *next = all;
+            d = number(), e = number(), i = number();
+            take(&file, d), take(&bytes, e), take(&dropped, (size_t)i * 4);
+            for (int k = 0; k < 5; k++) take(&said[k], k < 2 ? 8 : 4);
+            given = daybook_salvage(at(file), d, at(bytes), e, (uint32_t *)at(dropped), i, (size_t *)at(said[0]), (size_t *)at(said[1]),
+                                    (uint32_t *)at(said[2]), (uint32_t *)at(said[3]), (uint32_t *)at(said[4]));
+            for (int k = 0; k < 5; k++) memcpy(next, at(said[k]), said[k].size), next += said[k].size;
+            out[0] = crc(at(file), file.size) | (uint64_t)crc(at(dropped), dropped.size) << 32;
+            out[1] = crc(all, sizeof all);
+            break;
+        }
         case 'C':
             break;
         default:
             return 2;
         }
         uint32_t stand = stands(book) & stands(bytes) & stands(pairs) & stands(counts) & stands(closures) & stands(steps);
-        stand &= stands(coordinates) & stands(some) & stands(place[0]) & stands(place[1]);
+        stand &= stands(coordinates) & stands(some) & stands(place[0]) & stands(place[1]) & stands(file) & stands(dropped);
+        for (int k = 0; k < 5; k++) stand &= stands(said[k]);
         uint32_t rest[3] = {crc(at(book), book.size), crc(at(bytes), bytes.size), stand};
         fwrite(&given, 4, 1, stdout);
         fwrite(out, 8, 2, stdout);
@@ -219,6 +237,8 @@ int main(void) {
         free(bytes.whole), free(pairs.whole);
         free(counts.whole), free(closures.whole), free(steps.whole);
         free(coordinates.whole), free(some.whole);
+        free(file.whole), free(dropped.whole);
+        for (int k = 0; k < 5; k++) free(said[k].whole);
         free(place[0].whole), free(place[1].whole);
     }
     free(book.whole);

@@ -1,6 +1,6 @@
 /* Runs of the C interface that need C: the sizes that the header promises are enough, the stack that each call
- * needs, on right and on broken books, measured by painting it, what a search reads of a row, and calls on different
- * books side by side in threads.
+ * needs, on right and on broken books and files, measured by painting it, what a search reads of a row and a salvage
+ * of a file, and calls side by side in threads.
  *
  * Prints what it measured, and ends with 1 at the first thing that is not as the header says.
  */
@@ -15,7 +15,7 @@
 #include <sys/mman.h>
 #include <unistd.h>
 
-enum { STACK = 1 << 20, THREADS = 8, ROUNDS = 6, CALLS = 13 };
+enum { STACK = 1 << 20, THREADS = 8, ROUNDS = 6, CALLS = 14 };
 
 static void fail(const char *what) {
     printf("not as the header says: %s\n", what);
@@ -232,6 +232,20 @@ static uint32_t closures_of(struct call *c) {
     return daybook_closures(book, c->words, counts, points_of(book), closures, faces, steps, book[2], masked, book[2], &c->key, &c->position);
 }
 
+/* What a salvage writes, with room for any file. */
+struct salvaged {
+    uint8_t bytes[DAYBOOK_LONGEST_FILE];
+    uint32_t dropped[DAYBOOK_DROPPED_PLACES];
+    size_t length, count;
+    uint32_t flags[3];
+};
+
+static uint32_t salvage(const uint8_t *bytes, size_t size, struct salvaged *s) {
+    return daybook_salvage(bytes, size, s->bytes, sizeof s->bytes, s->dropped, DAYBOOK_DROPPED_PLACES, &s->length, &s->count, &s->flags[0], &s->flags[1], &s->flags[2]);
+}
+
+static struct salvaged saved;
+
 static void *make_call(void *place) {
     struct call *c = place;
     uint32_t cell = 0, count = 0, yes = 0;
@@ -253,6 +267,7 @@ static void *make_call(void *place) {
     case 10: c->number = daybook_drop(c->book, c->words, c->d, c->e, &c->key, &c->position); break;
     case 11: c->number = box_of(c); break;
     case 12: c->number = whole_box_of(c); break;
+    case 13: c->number = salvage(file, c->size, &saved); break;
     default: break;
     }
     return NULL;
@@ -336,6 +351,33 @@ static void measure_drops(struct call *c, unsigned dim) {
     free(before);
 }
 
+/* Salvages of the file with its cells all but one spoiled: made the first one again, with a vertex out of range, with one twice; and cut in the middle, and to its head. */
+static void measure_salvages(struct call *c, struct mesh m) {
+    unsigned size = m.dim + 1;
+    unsigned *corners = malloc(sizeof *corners * size * m.cells);
+    struct mesh bad = m;
+    if (!corners) exit(3);
+    bad.corners = corners;
+    c->which = 13;
+    for (int turn = 0; turn < 5; turn++) {
+        memcpy(corners, m.corners, sizeof *corners * size * m.cells);
+        for (unsigned cell = 1; cell < m.cells && turn < 3; cell++) {
+            unsigned *v = corners + size * cell;
+            if (turn == 0) memcpy(v, corners, sizeof *v * size);
+            if (turn == 1) v[cell % size] = 8191;
+            if (turn == 2) v[cell % size] = v[(cell + 1) % size];
+        }
+        if (turn == 1) bad.vertices = 8191;
+        c->size = file_of(bad, file);
+        bad.vertices = m.vertices;
+        if (turn == 3) c->size /= 2;
+        if (turn == 4) c->size = 4;
+        measured(c);
+        if (c->number || saved.count + (turn < 3) != (turn == 3 ? m.cells - (c->size - 4) * 8 / (13 * size) : m.cells)) fail("the cells that a salvage drops");
+    }
+    free(corners);
+}
+
 static void measure(struct mesh m) {
     size_t words = 1500000;
     struct call c = {CALLS, 0, 0, calloc(words, 4), words, file_of(m, file), 0, 0, 0};
@@ -357,6 +399,7 @@ static void measure(struct mesh m) {
     measure_kept(&c, m.dim, m.cells);
     measure_drops(&c, m.dim);
     measure_broken(&c, m.dim, m.cells);
+    measure_salvages(&c, m);
     free(c.book);
     free(m.corners);
 }
@@ -406,6 +449,53 @@ static void reads_no_further(void) {
     free(m.corners);
 }
 
+/* ---- what a salvage reads */
+
+/* A salvage of a file behind which memory may not be read: 1 where it touches that. */
+static int reads_behind(const uint8_t *bytes, size_t size, struct salvaged *s, uint32_t *number) {
+    if (sigsetjmp(met, 1)) return 1;
+    *number = salvage(bytes, size, s);
+    return 0;
+}
+
+/* A file cut at every place, each time so that it ends where a page ends and the next may not be read: the answer is that for the same bytes
+ * elsewhere. So the file begins at every address, odd ones among them. Then no bytes, no places and no output at all, where there are none to be read or
+ * written. */
+static void reads_no_more_than_the_file(void) {
+    size_t page = (size_t)sysconf(_SC_PAGESIZE), whole;
+    static struct salvaged here, there;
+    struct mesh m = stacked(4);
+    struct sigaction on = {0};
+    uint8_t *pages = mmap(NULL, 2 * page, PROT_READ | PROT_WRITE, MAP_PRIVATE | MAP_ANONYMOUS, -1, 0), *end = pages + page;
+    if (pages == MAP_FAILED || mprotect(end, page, PROT_NONE)) exit(3);
+    whole = file_of(m, file);
+    if (whole > page) fail("a file that fits in a page");
+    on.sa_handler = on_fault;
+    sigaction(SIGSEGV, &on, NULL);
+    for (size_t size = 0; size <= whole; size++) {
+        uint32_t number = 99, wanted;
+        memset(&here, 0x5A, sizeof here), memset(&there, 0x5A, sizeof there);
+        memcpy(end - size, file, size);
+        wanted = salvage(file, size, &there);
+        if (reads_behind(end - size, size, &here, &number)) fail("a salvage that reads behind its file");
+        if (number != wanted || number != (size < 4) || memcmp(&here, &there, sizeof here)) fail("a salvage of the same bytes elsewhere");
+    }
+    uint32_t unread;
+    if (!reads_behind(end - 3, 4, &here, &unread)) fail("a page behind a file that may not be read");
+    signal(SIGSEGV, SIG_DFL);
+    static const uint8_t none[4] = {0x80, 4, 0, 0};
+    uint8_t out[4] = {7, 7, 7, 7};
+    uint32_t place = 7, flags[3] = {7, 7, 7};
+    size_t length = 7, count = 7;
+    if (daybook_salvage(none, 4, out, 4, &place, 0, &length, &count, flags, flags + 1, flags + 2) || memcmp(out, none, 4) || place != 7 || length != 4 || count || flags[0] || flags[1] || flags[2])
+        fail("a salvage of no cells");
+    if (daybook_salvage(none, 0, out, 0, &place, 0, &length, &count, flags, flags + 1, flags + 2) != DAYBOOK_FILE_TOO_SHORT) fail("a salvage of no bytes");
+    if (daybook_salvage(none, 4, out, 0, &place, 0, &length, &count, flags, flags + 1, flags + 2) != DAYBOOK_BUFFER_TOO_SHORT) fail("a salvage without output");
+    printf("a salvage of %lu bytes, cut at every place, reads none behind them\n", (unsigned long)whole);
+    munmap(pages, 2 * page);
+    free(m.corners);
+}
+
 /* ---- side by side */
 
 struct worker {
@@ -413,6 +503,7 @@ struct worker {
     size_t size, words;
     uint32_t *book, number, some;
     double boxes[2][6];
+    struct salvaged saved;
 };
 
 static void *work(void *place) {
@@ -424,6 +515,8 @@ static void *work(void *place) {
     size_t position;
     w->number |= daybook_box(w->book, w->words, coordinates, 2 * points, 2, 2, entities_of(w->book, 2) - 1, w->boxes[0], &key, &position);
     w->number |= daybook_whole_box(w->book, w->words, coordinates, 3 * points, 3, w->boxes[1], &w->some, &key, &position);
+    memset(&w->saved, 0x5A, sizeof w->saved);
+    w->number |= salvage(w->file, w->size * 2 / 3, &w->saved);
     return NULL;
 }
 
@@ -447,17 +540,18 @@ static void side_by_side(void) {
             work(&alone);
             if (workers[k].number || memcmp(alone.book, workers[k].book, 200000 * 4)) fail("calls on different books side by side");
             if (workers[k].some != 1 || memcmp(alone.boxes, workers[k].boxes, sizeof alone.boxes)) fail("boxes in different books side by side");
+            if (memcmp(&alone.saved, &workers[k].saved, sizeof alone.saved)) fail("salvages of different files side by side");
             free(alone.book);
             free(workers[k].book);
         }
     }
-    printf("%d books side by side in threads, %d times: each as if it were alone\n", THREADS, ROUNDS);
+    printf("%d books and files side by side in threads, %d times: each as if it were alone\n", THREADS, ROUNDS);
 }
 
 int main(void) {
     setvbuf(stdout, NULL, _IOLBF, 0);
-    static const char *names[] = {"load", "ask", "make", "row", "write", "euler", "held_count", "find", "ask_list", "closures", "drop", "box", "whole_box"};
-    static const size_t kilobytes[] = {128, 512, 512, 16, 64, 64, 16, 16, 512, 64, 64, 64, 128};
+    static const char *names[] = {"load", "ask", "make", "row", "write", "euler", "held_count", "find", "ask_list", "closures", "drop", "box", "whole_box", "salvage"};
+    static const size_t kilobytes[] = {128, 512, 512, 16, 64, 64, 16, 16, 512, 64, 64, 64, 128, 256};
     enough("a sheet of 3,698 triangles", sheet(44));
     enough("two stacked scans of 4,056 tetrahedra", stacked(27));
     enough("a chain of 4,096 intervals", chain(4096));
@@ -479,6 +573,7 @@ int main(void) {
         if (most[k] > kilobytes[k] << 10) fail("the stack that a call needs");
     }
     reads_no_further();
+    reads_no_more_than_the_file();
     side_by_side();
     return 0;
 }

@@ -137,6 +137,71 @@ def faulty_file(rng):
     return bytes(data)
 
 
+def spoiled_cells(rng, D, points, count):
+    """So many cells, mostly right ones; or with a vertex out of range, a vertex twice, or both; or an earlier one again, be that right or not, its vertices in any order."""
+    cells = []
+    for _ in range(count):
+        if cells and rng.random() < 0.3:
+            cell = list(rng.choice(cells))
+            rng.shuffle(cell)
+        else:
+            cell = rng.sample(range(points), D + 1) if points > D else [rng.randrange(points + 1) for _ in range(D + 1)]
+            if rng.random() < 0.15:
+                cell[rng.randrange(D + 1)] = min(8191, rng.choice((points, points, points + 1, 8191)))
+            if rng.random() < 0.15:
+                one, other = rng.sample(range(D + 1), 2)
+                cell[one] = cell[other]
+        cells.append(cell)
+    return cells
+
+
+def with_lies(rng, data):
+    """The file with another D, N_0 or N_D in its head: mostly with more cells than there are, or fewer, or the most that there may be and one more."""
+    head = int.from_bytes(data[:4], "big")
+    count, way = head >> 3 & 0x1FFF, rng.randrange(5)
+    if way == 0:
+        head ^= rng.randrange(1, 4) << 30
+    elif way == 1:
+        head = head & ~(0x3FFF << 16) | rng.choice((0, 1, 3, 8191, 8192, 8193, 16383)) << 16
+    else:
+        more = count + 1, count + 1, count + 2, max(0, count - 1), 0, 4095, 4096, 4097, 8191
+        head = head & ~(0x1FFF << 3) | rng.choice(more) << 3
+    return head.to_bytes(4, "big") + data[4:]
+
+
+def shortened(rng, data):
+    """The file cut anywhere, or where a cell ends, or a byte before or behind that, or within its head."""
+    size = 13 * ((data[0] >> 6) + 1)
+    end = (32 + size * rng.randrange(8 * len(data) // size + 1) + 7) // 8
+    return data[:max(0, rng.choice((rng.randrange(len(data)), len(data) - 1, len(data) - 1, end - 1, end, end + 1, rng.randrange(5))))]
+
+
+def file_to_salvage(rng):
+    """A right file, or any bytes; or one with cells of every kind, in which, each at times, pad bits and spare bits are set, the head lies, and the end is cut or bytes follow it."""
+    way = rng.random()
+    if way < 0.05:
+        return rng.randbytes(rng.randrange(60))
+    if way < 0.2:
+        return rules.file_bytes(*small_mesh(rng))
+    D, points = rng.choice((1, 2, 3)), rng.choice((0, 2, 4, 5, 6, 9, 8192))
+    right = rng.random() < 0.3
+    cells = random_mesh(rng, D, points, rng.randrange(9))[2] if right else spoiled_cells(rng, D, points, rng.randrange(9))
+    data = bytearray(rules.file_bytes(D, points, cells))
+    pad = -13 * (D + 1) * len(cells) % 8
+    if pad and rng.random() < 0.3:
+        data[-1] |= rng.choice((1, 1 << pad - 1, rng.randrange(1, 1 << pad)))
+    if rng.random() < 0.2:
+        data[3] |= rng.randrange(1, 8)
+    if rng.random() < 0.15:
+        data = with_lies(rng, bytes(data))
+    way = rng.random()
+    if way < 0.25:
+        data = shortened(rng, data)
+    elif way < 0.45:
+        data += rng.choice((bytes, rng.randbytes))(rng.choice((1, 1, 2, 5, 60)))
+    return bytes(data)
+
+
 def lying_book(rng, room):
     """A book that breaks no rule and tells no truth: different cells; any relations, with all that they are made from or without; N_1 and N_2
     as many as the cells have, or not; and any rows that ascend and lie below the counts."""

@@ -23,31 +23,39 @@ class Bits:
     """Bit fields, most significant bit first; bits past the end are 0."""
 
     def __init__(self, data):
-        self.size = 8 * len(data)
-        self.number = int.from_bytes(data, "big")
+        self.size, self.data = 8 * len(data), bytes(data)
 
     def field(self, at, width):
-        end = at + width
-        number = self.number << max(0, end - self.size)
-        return (number >> max(0, self.size - end)) & ((1 << width) - 1)
+        first, last = at // 8, (at + width + 7) // 8
+        number = int.from_bytes(self.data[first:last].ljust(last - first, b"\0"), "big")
+        return number >> (8 * last - at - width) & ((1 << width) - 1)
 
 
 def file_length(D, cells):
     return 4 + (13 * (D + 1) * cells + 7) // 8
 
 
-def read_file(data):
-    """Refusals 1 to 8, 23 and 9: (number, cell, None), or (0, None, (D, N_0, cells as they stand in the file))."""
+def head_of(data):
+    """Refusals 1 to 4: (number, None), or (0, (D, N_0, N_D, the spare bits))."""
     if len(data) < 4:
-        return 1, None, None
-    bits = Bits(data)
+        return 1, None
+    bits = Bits(data[:4])
     D, points, count, spare = bits.field(0, 2), bits.field(2, 14), bits.field(16, 13), bits.field(29, 3)
     if D == 0:
-        return 2, None, None
+        return 2, None
     if points > 8192:
-        return 3, None, None
+        return 3, None
     if count > 4096:
-        return 4, None, None
+        return 4, None
+    return 0, (D, points, count, spare)
+
+
+def read_file(data):
+    """Refusals 1 to 8, 23 and 9: (number, cell, None), or (0, None, (D, N_0, cells as they stand in the file))."""
+    number, head = head_of(data)
+    if number:
+        return number, None, None
+    (D, points, count, spare), bits = head, Bits(data)
     if spare:
         return 5, None, None
     if len(data) != file_length(D, count):
@@ -76,6 +84,53 @@ def file_bytes(D, points, cells):
     text += "".join(format(v, "013b") for cell in cells for v in cell)
     text += "0" * (-len(text) % 8)
     return int(text, 2).to_bytes(len(text) // 8, "big")
+
+
+# ---- salvage: the cells of a file that can be saved
+
+REASONS = (6, 7, 8, 23)
+
+# What is said of a file that was salvaged.
+Salvaged = namedtuple("Salvaged", "length dropped spare pad wrong_length")
+
+
+def why_dropped(bits, D, points, at, kept):
+    """Why the cell whose bits begin at `at` is dropped, 0 where it is kept; kept has the vertex sets kept before it."""
+    if at + 13 * (D + 1) > bits.size:
+        return 6
+    cell = [bits.field(at + 13 * k, 13) for k in range(D + 1)]
+    if any(v >= points for v in cell):
+        return 7
+    if len(set(cell)) < len(cell):
+        return 8
+    return 23 if frozenset(cell) in kept else 0
+
+
+def salvage(data, out, dropped):
+    """(number, what is said of the file, or None on a refusal); out is a bytearray, dropped a list of numbers."""
+    number, head = head_of(data)
+    if number:
+        return number, None
+    (D, points, count, spare), bits = head, Bits(data)
+    cells, kept, listed = [], set(), []
+    for c in range(count):
+        at = 32 + 13 * (D + 1) * c
+        why = why_dropped(bits, D, points, at, kept)
+        if why:
+            listed += [c, why]
+        else:
+            cells.append([bits.field(at + 13 * k, 13) for k in range(D + 1)])
+            kept.add(frozenset(cells[-1]))
+    saved = file_bytes(D, points, cells)
+    if len(out) < len(saved):
+        return 18, None
+    if len(dropped) < 2 * count:
+        return 21, None
+    out[:len(saved)] = saved
+    dropped[:len(listed)] = listed
+    end, exact = 32 + 13 * (D + 1) * count, file_length(D, count)
+    pad = any(bits.field(at, 1) for at in range(end, 8 * exact) if at < bits.size)
+    return 0, Salvaged(len(saved), len(listed) // 2, spare != 0, pad, len(data) != exact)
 
 
 # ---- the book

@@ -1,5 +1,5 @@
 #!/usr/bin/env python3
-"""Runs the program on files of every kind, and compares each output, byte for byte, with what the separate program makes of the file.
+"""Runs dayreport on files of every kind, and compares each output, byte for byte, with what the separate program makes of the file.
 
 PROGRAM holds the words that run it (checks/setup sets them); the one argument is the program's path.
 """
@@ -127,7 +127,7 @@ def main():
     for number in (1, 2, 3, 4, 5, 6, 7, 8, 9, 13, 23):
         if b"refused %d" % number not in given:
             sys.exit("refusal %d was not met" % number)
-    print("the program printed what the separate program gives for %d files: %s"
+    print("dayreport printed what the separate program gives for %d files: %s"
           % (sum(given.values()) + 1, ", ".join("%s: %d" % (k.decode(), n) for k, n in sorted(given.items()))))
 
 

@@ -6,8 +6,8 @@ lent word, byte and float (by its bits), and every guard word must agree.
 --full adds meshes of the full size. It prints, for each call, how often each number was given, how often each
 answer of a list of asks and each closure of a face was written, how often random calls met each kind of place
 where a book is broken, each answer that comes of dropping relations, each kind of mesh that an Euler number was
-given for and each answer and kind of a box, and the seed. From 20,000 calls on each of these has to be met, from
-200,000 on a hundred times.
+given for, each answer and kind of a box and of a salvage, and the seed. From 20,000 calls on each of these has to
+be met, from 200,000 on a hundred times.
 """
 
 import argparse
@@ -43,6 +43,12 @@ BOXES = tuple("box %d" % number for number in (0, 10, 11, 12, 15, 17, 26, 21, 27
 BOX_KINDS = ("no box",) + tuple("%s, %s" % kind for kind in itertools.product(
     ("d = 0", "d = 1", "d = 2", "d = 3", "whole"), ("2 axes", "3 axes", "reached", "not reached"))) + tuple(
     "%s %s %s" % kind for kind in itertools.product(("box", "whole"), ("least", "greatest"), ("0.0", "-0.0")))
+# What a salvage gives: each number; why cells are dropped; what else spoke against a cell of which there is something, a fault of its own or an earlier cell with the
+# same vertices, those that are missing taken for 0, or that nothing did; each flag where the other two are 0; pad bits set and bytes behind them; both lengths too short;
+# cells, and none kept; and a file that a load accepts.
+SALVAGES = tuple("salvage %d" % number for number in (0, 1, 2, 3, 4, 18, 21)) + tuple("dropped %d" % why for why in rules.REASONS)
+SALVAGE_KINDS = tuple("%d over %d" % pair for pair in itertools.combinations(rules.REASONS, 2)) + (
+    "6 alone", "spare alone", "pad alone", "wrong_length alone", "pad and more bytes", "18 and 21", "none kept", "comes back")
 # Floats by their bits: zeros, the least of all and the least that is normal and its neighbour, ones, the greatest and its neighbour.
 ZEROS = (0, 1 << 63)
 SMALL = ZEROS + tuple(sign << 63 | bits for sign in (0, 1) for bits in (1, 2, (1 << 52) - 1, 1 << 52))
@@ -146,9 +152,10 @@ class Runs:
 
     def count_kinds(self):
         """Counts from 0 how often each kind of place is met, by the calls that check the whole book, by row and by find; what comes of drops; what an
-        Euler number is given for; and what boxes give."""
+        Euler number is given for; what boxes give; and what salvages give."""
         self.kinds = {"places": dict.fromkeys(rules.KINDS, 0), "row's": dict.fromkeys(rules.OWN_KINDS, 0), "find's": dict.fromkeys(rules.OWN_KINDS, 0),
-                      "room": dict.fromkeys(ROOM, 0), "points": dict.fromkeys(POINTS, 0), "boxes": dict.fromkeys(BOXES + BOX_KINDS, 0)}
+                      "room": dict.fromkeys(ROOM, 0), "points": dict.fromkeys(POINTS, 0), "boxes": dict.fromkeys(BOXES + BOX_KINDS, 0),
+                      "salvages": dict.fromkeys(SALVAGES + SALVAGE_KINDS, 0)}
 
     def fail(self, what, got, wanted):
         print("DISAGREE: %s: the library says %s, the reference %s" % (what, got, wanted))
@@ -184,7 +191,7 @@ class Runs:
             raise SystemExit("%s: 25 in a book that calls alone have written" % name)
 
     def meet(self, what):
-        for row in (self.kinds["room"], self.kinds["boxes"]):
+        for row in (self.kinds["room"], self.kinds["boxes"], self.kinds["salvages"]):
             if what in row:
                 row[what] += 1
 
@@ -302,6 +309,66 @@ class Runs:
         for place, end in enumerate(ends[:2 * axes]):
             if end == 0 and set(ZEROS) <= {coordinates[axes * v + place // 2] for v in vertices}:
                 self.meet("%s %s %s" % (call, ("least", "greatest")[place % 2], end))
+
+    def salvage(self, data, out, dropped):
+        """The call's number and, where accepted, what is said of the file, the file that was written, and the numbers of the cells dropped."""
+        self.past = self.book
+        before = self.rng.randbytes(28)
+        text = b"S" + packed([len(data), len(out), len(dropped)]) + data + bytes(out) + packed(dropped) + before
+        out, dropped = bytearray(out), list(dropped)
+        number, said = rules.salvage(data, out, dropped)
+        after = before if number else struct.pack("<QQIII", *said)
+        first = zlib.crc32(data) | checksum(dropped) << 32
+        self.check("salvage", text, number, first, zlib.crc32(after), bytes(out), (len(data), data[:400].hex(), len(out), len(dropped), said, dropped[:40]))
+        if number == 18 and len(dropped) < 2 * rules.head_of(data)[1][2]:
+            self.meet("18 and 21")
+        if number:
+            return number, None, None, None
+        saved, listed = bytes(out[:said.length]), dropped[:2 * said.dropped]
+        self.demand("a load's number of what was saved", rules.read_file(saved)[0], 0)
+        if rules.read_file(data)[0] == 0:
+            self.demand("a file that a load accepts comes back", (saved, said), (data, (len(data), 0, False, False, False)))
+            self.meet("comes back")
+        self.meet_salvage(data, said, listed)
+        return number, said, saved, listed
+
+    def meet_salvage(self, data, said, listed):
+        """Counts the cells dropped by why, and by what else spoke against each; and what is said of the file."""
+        (D, points, count, _), bits, earlier = rules.head_of(data)[1], rules.Bits(data), set()
+        reasons = dict(zip(listed[::2], listed[1::2]))
+        for c in range(count):
+            cell = sorted(bits.field(32 + 13 * ((D + 1) * c + k), 13) for k in range(D + 1))
+            if c in reasons:
+                self.meet("dropped %d" % reasons[c])
+                against = {7: cell[-1] >= points, 8: len(set(cell)) <= D, 23: tuple(cell) in earlier}
+                if 32 + 13 * (D + 1) * c < bits.size:
+                    for other in [other for other in against if against[other]]:
+                        self.meet("%d over %d" % (reasons[c], other))
+                    if reasons[c] == 6 and not any(against.values()):
+                        self.meet("6 alone")
+            earlier.add(tuple(cell))
+        if [said.spare, said.pad, said.wrong_length].count(True) == 1:
+            self.meet("%s alone" % next(name for name in ("spare", "pad", "wrong_length") if getattr(said, name)))
+        if said.pad and said.wrong_length:
+            self.meet("pad and more bytes")
+        if said.dropped == count > 0:
+            self.meet("none kept")
+
+    def lent_for(self, data, size=None, places=None):
+        """Bytes for the output and places for the cells dropped, with any bits: so many, or as many as are needed."""
+        number, head = rules.head_of(data)
+        if size is None:
+            out = bytearray(len(data))
+            size = 0 if number else rules.salvage(data, out, [0] * 8192)[1].length
+        places = places if places is not None else 0 if number else 2 * head[2]
+        return self.rng.randbytes(size), list(struct.unpack("<%dI" % places, self.rng.randbytes(4 * places)))
+
+    def saved_again(self, saved):
+        """What was saved, loaded into the words that it takes, and salvaged again, which gives the same."""
+        D, _, cells = rules.read_file(saved)[2]
+        self.use([7] * (6 + len(cells) * (D + 2)))
+        self.demand("a load of what was saved", self.load(saved), 0)
+        self.demand("salvaged twice", self.salvage(saved, *self.lent_for(saved)), (0, (len(saved), 0, False, False, False), saved, []))
 
     def dimension(self):
         return self.rng.choice((0, 0, 1, 1, 2, 2, 3, 3, 4, 0xFFFFFFFF)) if self.rng.random() < 0.2 else self.rng.randrange(4)
@@ -462,6 +529,23 @@ class Runs:
         count = frame.counts.get(d, 0) if frame else 0
         i = rng.choice((rng.randrange(count), rng.randrange(count), count - 1)) if count and rng.random() < 0.9 else rng.choice((count, 0, self.number()))
         return self.box(coordinates, axes, d, i)
+
+    def some_salvage(self):
+        """A salvage, mostly with the lengths that it needs or longer; or with one or both of them too short."""
+        rng, data = self.rng, meshes.file_to_salvage(self.rng)
+        out, dropped = self.lent_for(data)
+        need, places, short = len(out), len(dropped), rng.random()
+        if short < 0.15 or rng.random() < 0.3:
+            need = max(0, need + rng.choice((-1, -1, -1, -5, -need) if short < 0.15 else (1, 2, 30, len(data) - need)))
+        if 0.1 < short < 0.25 or rng.random() < 0.3:
+            places = max(0, places + rng.choice((-1, -1, -2, -places // 2, -places) if 0.1 < short < 0.25 else (1, 2, 3, 40)))
+        saved = self.salvage(data, *self.lent_for(data, need, places))[2]
+        if saved is not None and rng.random() < 0.3:
+            self.saved_again(saved)
+
+    def salvage_run(self):
+        for _ in range(10):
+            self.some_salvage()
 
     def step(self, made):
         rng = self.rng
@@ -671,6 +755,7 @@ class Runs:
         self.closures_of_full_size()
         self.boxes_of_full_size()
         self.repeats_of_full_size()
+        self.salvages_of_full_size()
         many = bytearray(rules.file_bytes(*whole))
         for at in (0, 2):
             more = bytearray(many)
@@ -767,6 +852,27 @@ class Runs:
             self.demand("the last cell of the book again", self.relation("ask", 0, 0), 11)
             self.demand("the first index of the last cell", self.told, (4 * D, last + 1 + 1 + (D + 1) * last))
 
+    def salvages_of_full_size(self):
+        """4,096 cells of each dimension: whole, cut in many places, followed by 40,000 bytes, with lying heads, with every cell the first one again or the last one an earlier one, and with every
+        second one spoiled in each way; with just the room that is needed, or a byte or a place less. What is saved is loaded, and salvaged again."""
+        for D, points, cells in (meshes.scattered(4096, 8192), meshes.strip(2, 8000, 100), meshes.strip(1, 4097, 0)):
+            right, size = rules.file_bytes(D, points, cells), 13 * (D + 1)
+            files = [(right, 4096), (right + bytes(40000), 4096), (right[:len(right) // 2], (len(right) // 2 * 8 - 32) // size), (right[:-1], 4095), (right[:4], 0)]
+            files.append((rules.file_bytes(D, points, [cells[0][::(-1) ** c] for c in range(4096)]), 1))
+            files += [(rules.file_bytes(D, points, cells[:-1] + [cells[again][::-1]]), 4095) for again in (0, 4094, self.rng.randrange(4095))]
+            for spoil in (lambda c: [cells[c][1]] + cells[c][1:], lambda c: cells[c][:-1] + [min(points, 8191)], lambda c: cells[self.rng.randrange(0, c, 2)][::-1]):
+                files.append((rules.file_bytes(D, points, [cells[c] if c % 2 == 0 else spoil(c) for c in range(4096)]), None))
+            few = (D << 30 | (points - 1) << 16 | 4096 << 3 | 7).to_bytes(4, "big")
+            files += [(few + right[4:], None), ((D << 30 | 4096 << 3).to_bytes(4, "big") + right[4:], 0), ((D << 30 | points << 16 | 4095 << 3).to_bytes(4, "big") + right[4:], 4095)]
+            for data, kept in files:
+                out, dropped = self.lent_for(data)
+                number, said, saved, _ = self.salvage(data, out, dropped)
+                self.demand("number", number, 0)
+                if kept is not None:
+                    self.demand("cells kept of %d bytes" % len(data), rules.head_of(saved)[1][2], kept)
+                self.demand("a byte or a place less", [self.salvage(data, out[1:], dropped[1:])[0], self.salvage(data, out, dropped[1:])[0]], [18, 21])
+                self.saved_again(saved)
+
     def places_of_full_size(self):
         """The book with all relations, broken at its far end and then ever nearer: its last word, the last index of D→D, an offset of D→0, the first offset."""
         frame, book, used = rules.Frame.of(self.book), list(self.book), self.book[4]
@@ -794,7 +900,7 @@ class Runs:
 
     def examples(self):
         """Examples by hand, whose numbers stand here as they were worked out: 10 and 11 of the paper, cells twice, searches, lists of asks, phase closures, drops,
-        unused points, and boxes."""
+        unused points, boxes, and salvages."""
         t = rules.file_bytes(2, 4, [[0, 1, 3], [1, 2, 3]])
         for room, number in ((54, 0), (53, 13)):
             self.use([7] * room)
@@ -829,6 +935,9 @@ class Runs:
         self.boxes(t)
         self.boxes_refused(t)
         self.boxes_unused()
+        self.salvages(t)
+        self.salvages_cut()
+        self.salvages_refused(t)
 
     def cells_twice(self, t):
         """A cell that repeats an earlier one, in files and in books; and an edge in three triangles, which is allowed."""
@@ -1255,6 +1364,82 @@ class Runs:
                     self.demand("too long", self.whole_box([0] * (axes * points + 1), axes)[0], 21)
                 self.demand("one axis", self.whole_box([0] * points, 1)[0], 26)
 
+    def salvage_is(self, data, saved, listed, *flags):
+        """A salvage, with the room that it needs and with more: it writes these bytes, lists these cells and says these flags."""
+        data, saved = bytes.fromhex(data), bytes.fromhex(saved)
+        said = len(saved), len(listed) // 2, "spare" in flags, "pad" in flags, "wrong_length" in flags
+        places = 2 * rules.head_of(data)[1][2]
+        for size, room in ((len(saved), places), (len(saved) + 1, places + 1), (len(saved) + 20, places), (len(saved), places + 20)):
+            self.demand("salvage of %s" % data.hex(), self.salvage(data, *self.lent_for(data, size, room)), (0, said, saved, listed))
+        self.saved_again(saved)
+
+    def salvages(self, t):
+        """T, whose cell 0 ends in byte 8 and whose cell 1 ends in byte 13, before two pad bits; intervals and a tetrahedron. The bytes are worked out by hand."""
+        whole, one = "800400100000004006001001000c", "800400080000004006"
+        self.demand("T", t.hex(), whole)
+        self.salvage_is(whole, whole, [])
+        for cut, saved, listed in ((13, one, [1, 6]), (10, one, [1, 6]), (9, one, [1, 6]), (8, "80040000", [0, 6, 1, 6]), (5, "80040000", [0, 6, 1, 6]), (4, "80040000", [0, 6, 1, 6])):
+            self.salvage_is(whole[:2 * cut], saved, listed, "wrong_length")
+        for last in ("0d", "0e", "0f"):
+            self.salvage_is(whole[:26] + last, whole, [], "pad")
+            self.salvage_is(whole[:26] + last + "00", whole, [], "pad", "wrong_length")
+            self.salvage_is("80040013" + whole[8:26] + last, whole, [], "pad", "spare")
+        for more in ("00", "ff", "ff" * 40):
+            self.salvage_is(whole + more, whole, [], "wrong_length")
+        for spare in range(1, 8):
+            self.salvage_is("8004001%d" % spare + whole[8:], whole, [], "spare")
+            self.salvage_is("8004001%d" % spare + whole[8:26], one, [1, 6], "spare", "wrong_length")
+        self.salvage_is("80030010" + whole[8:], "80030000", [0, 7, 1, 7])
+        self.salvage_is("80030010" + whole[8:26], "80030000", [0, 7, 1, 6], "wrong_length")
+        self.salvage_is("80000017" + whole[8:26] + "0f", "80000000", [0, 7, 1, 7], "spare", "pad")
+        self.salvage_is("80040010" + "0000004006" + "0030000004", one, [1, 23])  # 0 1 3 and 3 0 1
+        self.salvage_is("80040010" + "0008004006" + "001001000c", "80040008" + "0008008006", [0, 8])  # 1 1 3 and 1 2 3
+        self.salvage_is("80040018" + whole[8:], whole, [2, 6], "wrong_length")  # a third cell that is not there
+        self.salvage_is("80040008" + whole[8:], one, [], "wrong_length")  # a second cell that the head does not have; the bit behind the first is 0
+        self.salvage_is("80040008" + "0000004007", one, [], "pad")
+        intervals = [[0, 1], [1, 0], [2, 2], [3, 3], [3, 0], [0, 3], [2, 2], [1, 2], [2, 1]]
+        self.salvage_is(rules.file_bytes(1, 3, intervals).hex(), "40030010" + "00000040020020", [1, 23, 2, 8, 3, 7, 4, 7, 5, 7, 6, 8, 8, 23])
+        self.salvage_is("c0040008" + "00180040000020", "c0040008" + "00180040000020", [])  # 3 1 0 2, and the order stays
+        self.salvage_is("c0040008" + "0018004000002f", "c0040008" + "00180040000020", [], "pad")
+        self.salvage_is("c0040008" + "001800400000", "c0040000", [0, 6], "wrong_length")
+        for head in ("40000000", "80280000", "e0000000"):
+            self.salvage_is(head, head, [])
+            self.salvage_is(head[:7] + "5", head, [], "spare")
+            self.salvage_is(head + "ff", head, [], "wrong_length")
+        self.salvage_is("a0008000", "a0000000", [x for c in range(4096) for x in (c, 6)], "wrong_length")
+
+    def salvages_cut(self):
+        """Five cells of each dimension, the third like the first, cut at every place, and with up to three bytes more: as many cells are whole as their bits have room."""
+        for D in (1, 2, 3):
+            cells = [[5, 1, 2, 3][:D + 1], [0, 1, 5, 4][:D + 1], [3, 2, 1, 5][3 - D:], [6, 0, 3, 2][:D + 1], [7, 6, 5, 4][:D + 1]]
+            right = rules.file_bytes(D, 8, cells)
+            for data in (right, bytes(right[:3] + b"\x2f" + right[4:-1] + bytes([right[-1] | (1 << -65 * (D + 1) % 8) - 1]))):
+                for length in range(4, len(data) + 4):
+                    there = min(5, (8 * length - 32) // (13 * (D + 1)))
+                    listed = [x for c in range(5) if c == 2 or c >= there for x in (c, 6 if c >= there else 23)]
+                    saved = rules.file_bytes(D, 8, [cells[c] for c in range(there) if c != 2])
+                    flags = [data != right and "spare", data != right and length >= len(data) and "pad", length != len(data) and "wrong_length"]
+                    self.salvage_is((data + b"\xff\x00\x80")[:length].hex(), saved.hex(), listed, *flags)
+
+    def salvages_refused(self, t):
+        """Each refusal and what it goes before; the lengths that are just too short, and 18 before 21."""
+        def number(data, size, places):
+            return self.salvage(data, *self.lent_for(data, size, places))[0]
+
+        for size in (0, 4, 20):
+            for places in (0, 4, 20):
+                for length in range(4):
+                    self.demand("%d bytes" % length, [number(file[:length], size, places) for file in (t, b"\0" * 4, b"\xff" * 4)], [1] * 3)
+                for head, wanted in (("00000000", 2), ("3fffffff", 2), ("60010000", 3), ("7fffffff", 3), ("60000000", 0), ("40008008", 4), ("6000ffff", 4), ("c0048017", 4)):
+                    file = bytes.fromhex(head) + t[4:]
+                    self.demand("head %s" % head, number(file, size, places), wanted or (0 if size >= 4 else 18))
+        for size in range(18):
+            for places in range(8):
+                for data, need in ((t, 14), (t[:13], 9), (t[:8], 4), (t + b"\xff", 14), (b"\x80\x01" + t[2:], 4)):
+                    self.demand("%d bytes, %d places" % (size, places), number(data, size, places), 18 if size < need else 21 if places < 4 else 0)
+        most = bytes.fromhex("a0008000")
+        self.demand("4,096 cells that are not there", [number(most, 4, 8192), number(most, 4, 8191), number(most, 3, 8191), number(most, 3, 8192), number(most, 4, 0)], [0, 21, 18, 18, 21])
+
     def run(self, full):
         self.examples()
         if full:
@@ -1263,18 +1448,20 @@ class Runs:
         while self.left > 0:
             self.sequences += 1
             way = self.rng.random()
-            if way < 0.34:
+            if way < 0.32:
                 self.true_run()
-            elif way < 0.56:
+            elif way < 0.53:
                 self.strange_run()
-            elif way < 0.66:
+            elif way < 0.62:
                 self.phase_run()
-            elif way < 0.72:
+            elif way < 0.68:
                 self.points_run()
-            elif way < 0.81:
+            elif way < 0.77:
                 self.room_run()
-            elif way < 0.90:
+            elif way < 0.86:
                 self.box_run()
+            elif way < 0.91:
+                self.salvage_run()
             else:
                 self.broken_run()
 

@@ -1,6 +1,7 @@
-"""Tests mesh.py: it makes the example files as they stand here, its pictures count the edges, colour the triangles and frame cells
-as the separate program does, and Gmsh files come out as the bytes written below, or with one line that says what is wrong. The
-broken book is broken in the one word that README.md shows, and the boxes that README.md shows are the separate program's.
+"""Tests mesh.py: it makes the example files as they stand here, its pictures count the edges, colour the triangles, frame cells and
+show those that are missing as the separate program does, and Gmsh files come out as the bytes written below, or with one line that
+says what is wrong. The broken book is broken in the one word that README.md shows, the boxes that README.md shows are the separate
+program's, and so are the cells of the file that was cut.
 
     python3 examples/check.py
 """
@@ -19,7 +20,7 @@ import phases  # noqa: E402
 import reference as rules  # noqa: E402
 import shapes  # noqa: E402
 
-FILES = ("t.day", "t.xy", "dam.day", "dam.xy", "dam.counts", "scan.day", "scan.xy", "stack.day", "stack.xy", "broken.book")
+FILES = ("t.day", "t.xy", "dam.day", "dam.xy", "dam.counts", "scan.day", "scan.xy", "stack.day", "stack.xy", "broken.book", "cut.day")
 COLOURS = {"minus": -1, "cells": 0, "plus": 1, "masked": 2}
 T = bytes.fromhex("80040010 0000004006001001000c")
 TETRAHEDRON = bytes.fromhex("c0040008 00180040000020")
@@ -191,6 +192,51 @@ def scan():
     demand("the scan is the dam and forty points", contents(HERE, "scan.day"), rules.file_bytes(D, points + 40, cells))
 
 
+def salvaged(data):
+    """The file that the separate program saves, and what it says of the one given and of each cell dropped."""
+    out, dropped = bytearray(len(data)), [None] * 8192
+    number, said = rules.salvage(data, out, dropped)
+    demand("salvage", number, 0)
+    return bytes(out[:said.length]), said, list(zip(dropped[:2 * said.dropped:2], dropped[1::2]))
+
+
+def cut():
+    """The first half of the dam's file; a cell has 39 bits. Saved are its first 1,841 cells, and README.md has their number and that of the others."""
+    whole, half = [contents(HERE, name) for name in ("dam.day", "cut.day")]
+    D, points, cells = rules.read_file(whole)[2]
+    demand("the first half of the dam's file", half, whole[:len(whole) // 2])
+    demand("a load of the half", rules.read_file(half)[:2], (6, None))
+    saved, said, dropped = salvaged(half)
+    demand("the dam's first cells are saved", saved, rules.file_bytes(D, points, cells[:1841]))
+    demand("what is said of the half", said, (8979, 1842, False, False, True))
+    demand("the cells dropped", dropped, [(c, 6) for c in range(1841, 3683)])
+    for words in (b"\ncells: 1841, pieces: 1,", b"1,841 triangles arrived, and 1,842 are missing"):
+        demand("README.md shows the cells saved", words in contents(HERE, "..", "README.md"), True)
+    return saved
+
+
+def missing_pictures(folder):
+    """What was saved of the dam beside the whole; T without a cell, a whole mesh that is the same, and tetrahedra, with places and without: the edges, the cells and the points that are missing."""
+    t, stack, halves = contents(HERE, "t.day"), contents(HERE, "stack.day"), [rules.file_bytes(2, 5, [[0, 1, 3]]), rules.file_bytes(2, 5, [[1, 2, 3], [3, 1, 0]])]
+    some = salvaged(stack[:1000])[0]
+    for part, whole, xy in ((cut(), contents(HERE, "dam.day"), "dam.xy"), (halves[0], halves[1], None), (halves[1], halves[0], None), (t, t, "t.xy"), (some, stack, "stack.xy"), (some, stack, None)):
+        day, full, svg = [os.path.join(folder, name) for name in ("saved.day", "whole.day", "saved.svg")]
+        words = ["--xy", os.path.join(HERE, xy)] if xy else []
+        demand("draw", run("draw", put(day, part), svg, "--whole", put(full, whole), *words), (0, "", ""))
+        texts, _, paths = parts(svg)
+        sets = [[set(cell) for cell in rules.read_file(data)[2][2]] for data in (part, whole)]
+        lost = [cell for cell in sets[1] if cell not in sets[0]]
+        edges = [{(a, b) for cell in cells for a in cell for b in cell if a < b} for cells in (sets[0], lost)]
+        demand("edges that are missing", paths["missing"].count("M"), len(edges[1] - edges[0]))
+        demand("legend of what is missing", texts[-4], "missing: %d cell%s" % (len(lost), "" if len(lost) == 1 else "s"))
+        demand("points that no cell uses", paths["alone"].count("M"), rules.read_file(part)[2][1] - len(set().union(*sets[0], *lost)))
+        if xy == "dam.xy":
+            demand("cut.svg is what draw writes", contents(svg) == contents(HERE, "cut.svg"), True)
+    counts = put(os.path.join(folder, "in.counts"), "0\n" * 5)
+    demand("draw", run("draw", put(day, halves[0]), svg, "--whole", put(full, halves[1]), "--counts", counts), (0, "", ""))
+    demand("legends", [text.split(":")[0] for text in parts(svg)[0][-8:-3]], ["missing", "closure −1", "closure 0", "closure +1", "masked"])
+
+
 def boxes(name, cells=()):
     """The box of the whole mesh and those of cells, by the separate program, as README.md shows them; the coordinates are whole numbers."""
     book = [0] * (1 << 18)
@@ -325,6 +371,11 @@ def refusals(folder):
         said = "%s: there is no cell %s\n" % (day, cell)
         demand("draw", run("draw", put(day, T), svg, "--xy", os.path.join(HERE, "t.xy"), "--box=" + cell), (1, "", said))
     demand("draw", run("draw", put(day, T), svg, "--box", "1"), (1, "", "%s: boxes are of places, and there is no --xy\n" % day))
+    whole = os.path.join(folder, "whole.day")
+    for data, words in ((T[:13], "refused 6"), (b"\x80\x03" + T[2:], "refused 7, cell 0"), (rules.file_bytes(2, 5, [[0, 1, 3]]), "D and N_0 are not those of " + day),
+                        (rules.file_bytes(3, 4, []), "D and N_0 are not those of " + day)):
+        demand("draw", run("draw", put(day, T), svg, "--whole", put(whole, data)), (1, "", "%s: %s\n" % (whole, words)))
+    demand("draw", run("draw", put(day, T), svg, "--whole", svg), (1, "", "%s: No such file or directory\n" % svg))
     demand("draw", run("draw", svg, svg), (1, "", "%s: No such file or directory\n" % svg))
     demand("a refused picture is not written", os.path.exists(svg), False)
 
@@ -380,9 +431,10 @@ def main():
         pictures(folder)
         closure_pictures(folder)
         framed_pictures(folder)
+        missing_pictures(folder)
         refusals(folder)
         gmsh_files(folder)
-    print("examples: the files are as they are made, the pictures count, colour and frame right, Gmsh files are read or refused as they should be")
+    print("examples: the files are as they are made, the pictures count, colour and frame right and show what is missing, Gmsh files are read or refused as they should be")
 
 
 if __name__ == "__main__":

@@ -1,9 +1,9 @@
 #!/usr/bin/env python3
-"""The example meshes: writes their day files and a broken book, turns a Gmsh file into a day file, and draws a day file.
+"""The example meshes: writes their day files, one that was cut, and a broken book, turns a Gmsh file into a day file, and draws a day file.
 
     python3 examples/mesh.py make
     python3 examples/mesh.py from-msh IN.msh OUT.day [--xy OUT.xy]
-    python3 examples/mesh.py draw FILE.day [--xy FILE.xy] [--counts FILE.counts] [--box CELL]... OUT.svg
+    python3 examples/mesh.py draw FILE.day [--xy FILE.xy] [--counts FILE.counts] [--box CELL]... [--whole WHOLE.day] OUT.svg
 
 A day file has no coordinates. They stand beside it, one line "x y" for each vertex. Where there are none, `draw` lays the
 mesh out by how many edges part two vertices, so that what is far apart along the mesh is far apart in the picture.
@@ -14,6 +14,9 @@ of the way around by ascending vertices, be it clockwise or counterclockwise in 
 
 With --box `draw` also frames the whole mesh and each cell that is named, by their upright boxes. These are of places, so --xy has
 to be there.
+
+With --whole `draw` also shows, by their edges, the cells that are missing: those of WHOLE.day that FILE.day has not. Both have the
+same D and the same vertices.
 """
 
 import argparse
@@ -74,6 +77,9 @@ def make(folder):
             counts = phases.dam(places)
             write(path + ".counts", "".join("%d\n" % count for count in counts))
             print("dam.counts: %d vertices, %d masked" % (len(counts), counts.count(rules.MASKED)))
+            whole = rules.file_bytes(*mesh)
+            write(os.path.join(folder, "cut.day"), whole[:len(whole) // 2])
+            print("cut.day: the first %d of the %d bytes of dam.day" % (len(whole) // 2, len(whole)))
     write(os.path.join(folder, "broken.book"), broken_book())
     print("broken.book: 128 words")
 
@@ -116,10 +122,16 @@ def counts_of(path, points):
     return counts
 
 
-def draw(day, xy, counts, boxes, svg):
-    number, cell, mesh = rules.read_file(read(day))
+def mesh_of(path, before=""):
+    """The mesh of a day file; where it is refused, the words that go before that."""
+    number, cell, mesh = rules.read_file(read(path))
     if number:
-        sys.exit("refused %d" % number + (", cell %d" % cell if cell is not None else ""))
+        sys.exit(before + "refused %d" % number + (", cell %d" % cell if cell is not None else ""))
+    return mesh
+
+
+def draw(day, xy, counts, boxes, whole, svg):
+    mesh = mesh_of(day)
     if counts and mesh[0] != 2:
         sys.exit("%s: D is %d, and only triangles are coloured by their closure" % (day, mesh[0]))
     for cell in boxes:
@@ -127,8 +139,11 @@ def draw(day, xy, counts, boxes, svg):
             sys.exit("%s: there is no cell %d" % (day, cell))
     if boxes and not xy:
         sys.exit("%s: boxes are of places, and there is no --xy" % day)
+    full = mesh_of(whole, whole + ": ") if whole else None
+    if full and full[:2] != mesh[:2]:
+        sys.exit("%s: D and N_0 are not those of %s" % (whole, day))
     write(svg, picture.drawing(os.path.basename(day), mesh, places_of(xy, mesh[1]) if xy else None,
-                               counts_of(counts, mesh[1]) if counts else None, boxes))
+                               counts_of(counts, mesh[1]) if counts else None, boxes, full))
 
 
 def main():
@@ -146,13 +161,14 @@ def main():
     showing.add_argument("--xy", help="the vertices' x and y")
     showing.add_argument("--counts", help="the vertices' phases, to colour triangles by their closure")
     showing.add_argument("--box", type=int, action="append", default=[], metavar="CELL", help="a cell to frame by its box, and the whole mesh")
+    showing.add_argument("--whole", metavar="DAY", help="the day file that has the cells that are missing")
     given = parser.parse_args()
     if given.command == "make":
         make(given.to)
     elif given.command == "from-msh":
         from_msh(given.msh, given.day, given.xy)
     else:
-        draw(given.day, given.xy, given.counts, given.box, given.svg)
+        draw(given.day, given.xy, given.counts, given.box, given.whole, given.svg)
 
 
 if __name__ == "__main__":

@@ -1,5 +1,5 @@
 """A mesh as an SVG picture, its edges coloured by how many cells they touch and, where there are counts, its triangles by their closure;
-some cells may be framed."""
+some cells may be framed, and those that a whole mesh has besides may be shown as missing."""
 
 import math
 from xml.sax.saxutils import escape
@@ -11,7 +11,7 @@ import shapes
 KINDS = ("one", "two", "more")
 COLOURS = {"one": "#d4570a", "two": "#5a7891", "more": "#7b2d9c"}
 WORDS = {"one": ("border, ", "1 cell"), "two": ("inside, ", "2 cells"), "more": ("branching, ", "3 or more cells")}
-INK, CELL, PAPER, FRAME = "#22303c", "#e6eef5", "#ffffff", "#0b7a4b"
+INK, CELL, PAPER, FRAME, MISSING = "#22303c", "#e6eef5", "#ffffff", "#0b7a4b", "#c4cad0"
 FACES = {-1: "minus", 0: "cells", 1: "plus", 2: "masked"}
 FILLS = {-1: "#0a62d0", 0: CELL, 1: "#d0104c", 2: "#b4bac0"}
 SIGNS = {-1: "−1", 0: "0", 1: "+1"}
@@ -56,11 +56,13 @@ def spread(mesh, edges):
 class Picture:
     """The lines of the picture so far. The edges of one colour are one path, and so are the cells, to keep it short."""
 
-    def __init__(self, name, mesh, places, counts):
+    def __init__(self, name, mesh, places, counts, whole):
         self.D, self.points, self.cells = mesh
         self.edges = edges_of(self.D, self.cells)
         self.closures, self.counted = closures_of(self.cells, counts), counts is not None
-        self.fit(spread(mesh, self.edges) if places is None else places)
+        have = set(map(frozenset, self.cells))
+        self.missing = None if whole is None else [cell for cell in whole[2] if frozenset(cell) not in have]
+        self.fit(spread(mesh, edges_of(self.D, self.cells + (self.missing or []))) if places is None else places)
         title = "%s: D = %d, N₀ = %d, N₁ = %d" % (name, self.D, self.points, len(self.edges))
         if self.D > 1:
             title += ", N%s = %d" % ("₂₃"[self.D - 2], len(self.cells))
@@ -77,7 +79,7 @@ class Picture:
         left, top, wide, high = min(xs), max(ys), max(xs) - min(xs), max(ys) - min(ys)
         tall = 560 if self.D == 3 else 400
         scale = min((room / size for room, size in ((900, wide), (tall, high)) if size > 0), default=1)
-        self.width, self.height = max(700, round(wide * scale) + 60), round(high * scale) + (168 if self.counted else 142)
+        self.width, self.height = max(700, round(wide * scale) + 60), round(high * scale) + 142 + 26 * (self.counted + (self.missing is not None))
         aside = (self.width - wide * scale) / 2
         self.at = [(aside + scale * (x - left), 70 + scale * (top - y)) for x, y in places]
         self.lengths = [math.dist(self.at[a], self.at[b]) for (a, b), _ in self.edges]
@@ -149,9 +151,15 @@ class Picture:
             if near[v] > 60:
                 self.disc(x, y, v, INK, PAPER, INK)
 
+    def draw_missing(self):
+        """The edges of the cells that are missing, but for those that a cell here has too."""
+        have = {edge for edge, _ in self.edges}
+        lines = [self.line(edge) for edge, _ in edges_of(self.D, self.missing) if edge not in have]
+        self.path("missing", lines, 'stroke="%s" stroke-width="0.5"' % MISSING)
+
     def draw_alone(self):
-        """The vertices that no cell uses, as dots."""
-        unused = sorted(set(range(self.points)) - {v for cell in self.cells for v in cell})
+        """The vertices that no cell uses, also none that is missing, as dots."""
+        unused = sorted(set(range(self.points)) - {v for cell in self.cells + (self.missing or []) for v in cell})
         self.path("alone", [self.line([v]) + "h0" for v in unused], 'stroke="%s" stroke-width="3"' % INK)
 
     def frame(self, name, vertices):
@@ -183,6 +191,10 @@ class Picture:
             marks.append((style, "m0 6h14l-7 -12Z", "%s: %s" % (words, number_of(self.closures.count(closure), "face"))))
         self.legend_row(self.height - 50, 14, marks)
 
+    def legend_of_missing(self):
+        words = "missing: %s" % number_of(len(self.missing), "cell")
+        self.legend_row(self.height - (76 if self.counted else 50), 22, [('stroke="%s" stroke-width="4"' % MISSING, "h22", words)])
+
     def legend(self):
         marks = []
         for kind in KINDS:
@@ -192,11 +204,14 @@ class Picture:
         self.legend_row(self.height - 24, 22, marks)
 
 
-def drawing(name, mesh, places, counts, boxes=()):
-    """The picture's text; places are None where there are no coordinates, and counts where there are no phases; boxes are cells to be framed."""
-    picture = Picture(name, mesh, places, counts)
+def drawing(name, mesh, places, counts, boxes=(), whole=None):
+    """The picture's text; places are None where there are no coordinates, and counts where there are no phases; boxes are cells to be framed; whole is the
+    mesh that has the cells that are missing, or None."""
+    picture = Picture(name, mesh, places, counts, whole)
     if picture.D == 2:
         picture.draw_cells()
+    if whole is not None:
+        picture.draw_missing()
     picture.draw_edges()
     picture.draw_alone()
     if picture.D == 2:
@@ -207,6 +222,8 @@ def drawing(name, mesh, places, counts, boxes=()):
             picture.number_edges()
         picture.number_vertices()
     picture.draw_boxes(boxes)
+    if picture.missing is not None:
+        picture.legend_of_missing()
     if picture.counted:
         picture.legend_of_faces()
     picture.legend()

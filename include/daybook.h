@@ -1,13 +1,13 @@
 /*
  * daybook: a day's mesh of triangles or tetrahedra, who touches whom in it, how phase closes around its faces, and the
- * upright box around any part of it.
+ * upright box around any part of it; and what can be saved of a day file that was cut short or damaged.
  *
  * A mesh has a dimension D (1, 2 or 3), N_0 vertices (at most 8,192) and N_D cells
  * (at most 4,096): intervals, triangles or tetrahedra, no two with the same vertices. An entity is a
  * pair (d, i): d = 0 is a vertex, d = D a cell, d = 1 an edge, d = 2 a face; i counts within its own
  * dimension. The relation d -> e lists, for each entity (d, i), the entities of dimension e that touch it.
  *
- * THE BOOK is an array of 32-bit words that you lend to each call. It holds one mesh and the
+ * THE BOOK is an array of 32-bit words that you lend to each call but daybook_salvage. It holds one mesh and the
  * relations made so far:
  *
  *   word 0      the day file's first 32 bits: D (2 bits), N_0 (14), N_D (13), 3 zero bits
@@ -48,13 +48,14 @@
  * daybook_row and daybook_find look at their row's own two offsets only, and say at the call which is meant.
  *
  * STACK, measured by painting it. daybook_make, daybook_ask and daybook_ask_list need up to 512 KiB
- * (417 KiB were measured), daybook_load and daybook_whole_box up to 128 KiB (113), daybook_drop, daybook_write,
- * daybook_euler, daybook_closures and daybook_box up to 64 KiB (57), the other calls less than 16 KiB (1).
+ * (417 KiB were measured), daybook_salvage up to 256 KiB (193), daybook_load and daybook_whole_box up to 128 KiB (113),
+ * daybook_drop, daybook_write, daybook_euler, daybook_closures and daybook_box up to 64 KiB (57), the other calls less
+ * than 16 KiB (1).
  *
  * OWNERSHIP. Nothing is allocated, nothing is global, nothing is kept after a call returns: the
  * book, the file, the lists and the buffers stay yours. Calls on different books may run side by side in
- * threads. In one call no two of the lent places may overlap, and no pointer may be null but for
- * an array of length 0 (which may then be any pointer that is not null, properly aligned).
+ * threads, and so may salvages, which take no book, with outputs of their own. In one call no two of the lent places
+ * may overlap. No pointer may be null; for an array of length 0 any aligned one will do.
  *
  * Each function is proved: for every file, book and number it returns without a fault, with
  * exactly the result and the words, bytes and floats that the rules give.
@@ -76,7 +77,7 @@ enum {
     DAYBOOK_MANY_VERTICES = 3,     /* N_0 is over 8,192 */
     DAYBOOK_MANY_CELLS = 4,        /* N_D is over 4,096 */
     DAYBOOK_SPARE_BITS = 5,        /* a spare bit of the file's head is set */
-    DAYBOOK_FILE_LENGTH = 6,       /* the file is not 4 + ceil(13 (D + 1) N_D / 8) bytes long */
+    DAYBOOK_FILE_LENGTH = 6,       /* the file is not 4 + ceil(13 (D + 1) N_D / 8) bytes long; of a cell dropped, it is not whole in the file */
     DAYBOOK_VERTEX_OUT = 7,        /* a cell names a vertex that is N_0 or more; the lowest such cell is given */
     DAYBOOK_VERTEX_TWICE = 8,      /* a cell names a vertex twice; the lowest such cell is given */
     DAYBOOK_BITS_AFTER = 9,        /* a bit after the last vertex is set */
@@ -88,10 +89,10 @@ enum {
     DAYBOOK_NEED_MISSING = 15,     /* something that is needed is not held */
     DAYBOOK_NOT_HELD = 16,         /* the relation is not held */
     DAYBOOK_NO_SUCH_ENTITY = 17,   /* i is N_d or more */
-    DAYBOOK_BUFFER_TOO_SHORT = 18, /* the byte buffer is shorter than the file */
+    DAYBOOK_BUFFER_TOO_SHORT = 18, /* the byte buffer is shorter than the file to be written */
     DAYBOOK_NO_SUCH_INDEX = 19,    /* j is N_e or more */
     DAYBOOK_PAIRS_OFF = 20,        /* half a pair, more than DAYBOOK_MOST_PAIRS pairs, or answers that have not one place a pair */
-    DAYBOOK_LIST_LENGTH = 21,      /* a lent list has not one place a vertex, edge or face, or coordinates are not axes times N_0 */
+    DAYBOOK_LIST_LENGTH = 21,      /* a lent list has not one place a vertex, edge or face, coordinates are not axes times N_0, or the list of cells dropped is shorter than 2 N_D */
     DAYBOOK_COUNT_OUTSIDE = 22,    /* a count is neither from -32,768 to 32,767 nor DAYBOOK_MASKED */
     DAYBOOK_CELL_TWICE = 23,       /* two cells of the file have the same vertices; the lowest that repeats an earlier one is given */
     DAYBOOK_CELLS_KEPT = 24,       /* D -> 0 is not dropped */
@@ -105,6 +106,10 @@ enum {
 
 /* The most pairs that daybook_ask_list takes. */
 #define DAYBOOK_MOST_PAIRS 16
+
+/* The bytes of the longest day file, and the places that are enough for the cells dropped of any file. */
+#define DAYBOOK_LONGEST_FILE 26628
+#define DAYBOOK_DROPPED_PLACES 8192
 
 /* The count of a masked point, and the closure of a face that has one. */
 #define DAYBOOK_MASKED 65536
@@ -237,6 +242,36 @@ uint32_t daybook_box(const uint32_t *book, size_t book_len, const double *coordi
  * Needs no relation but D -> 0, which is always held. Refusals: 10, 11 with *key and *position, 26, 21, 27. */
 uint32_t daybook_whole_box(const uint32_t *book, size_t book_len, const double *coordinates, size_t coordinates_len, uint32_t axes, double box[6],
                            uint32_t *some, uint32_t *key, size_t *position);
+
+/* Salvages a day file, one that was cut short or damaged: writes to out the file of the cells that can be kept, which
+ * daybook_load accepts in a book that is large enough. No book is lent. A file that daybook_load accepts comes back as
+ * it is.
+ *
+ * A cell is kept where it is whole in the file, has no vertex that is N_0 or more and none twice, and has not the
+ * vertices of an earlier cell that is kept. The cells kept, and the vertices in each, are in the file's order. D and N_0
+ * stay, N_D is the number of cells kept, and the spare bits and those after the last vertex are 0.
+ *
+ * dropped gets two numbers for each cell dropped, by ascending number: its number in file, and why, the first of these
+ * that applies:
+ *
+ *   DAYBOOK_FILE_LENGTH      6   it is not whole in the file, whatever its bits that are there say
+ *   DAYBOOK_VERTEX_OUT       7   it names a vertex that is N_0 or more
+ *   DAYBOOK_VERTEX_TWICE     8   it names a vertex twice
+ *   DAYBOOK_CELL_TWICE      23   it has the vertices of an earlier cell that is kept
+ *
+ * Where accepted, and only then, *length is the length of the file written, *count the number of cells dropped, and
+ * each of the other three is 1 or 0:
+ *
+ *   *spare          a spare bit of the file's head was set
+ *   *pad            a bit after the last vertex was set, of those that the file has up to the length that its head asks
+ *   *wrong_length   the file was not as long as its head asks
+ *
+ * Later bytes of out and later places of dropped stay as they were. out is long enough if it is as long as file, or
+ * DAYBOOK_LONGEST_FILE. dropped has to be 2 N_D long or longer, with the N_D of the file's head, also where the file is
+ * cut; DAYBOOK_DROPPED_PLACES is enough for any file.
+ * Refusals: 1 to 4 as daybook_load, 18 where out is shorter than the file to be written, 21 where dropped is too short. */
+uint32_t daybook_salvage(const uint8_t *file, size_t file_len, uint8_t *out, size_t out_len, uint32_t *dropped, size_t dropped_len,
+                         size_t *length, size_t *count, uint32_t *spare, uint32_t *pad, uint32_t *wrong_length);
 
 #ifdef __cplusplus
 }

@@ -1,9 +1,10 @@
-//! Safe calls of daybook: a day's mesh of triangles or tetrahedra in a book of lent words, and who touches whom in it.
+//! Safe calls of daybook: a day's mesh of triangles or tetrahedra in a book of lent words, and who touches whom in it; and what
+//! can be saved of a day file that was cut short or damaged.
 //!
-//! A book is a slice of `u32` that you lend to each call; `include/daybook.h` says what stands in it. Nothing is
+//! A book is a slice of `u32` that you lend to each call but `salvage`; `include/daybook.h` says what stands in it. Nothing is
 //! allocated and nothing is kept. A refusal alters nothing that was lent. `make`, `ask` and `ask_list` need up to
-//! 512 KiB of stack, `load` and `whole_box` up to 128 KiB, `drop_relation`, `write`, `euler`, `closures` and `box_of` up to
-//! 64 KiB.
+//! 512 KiB of stack, `salvage` up to 256 KiB, `load` and `whole_box` up to 128 KiB, `drop_relation`, `write`, `euler`,
+//! `closures` and `box_of` up to 64 KiB.
 //!
 //! ```no_run
 //! # let file: Vec<u8> = Vec::new();
@@ -94,6 +95,19 @@ mod c {
             key: *mut u32,
             position: *mut usize,
         ) -> u32;
+        pub fn daybook_salvage(
+            file: *const u8,
+            file_len: usize,
+            out: *mut u8,
+            out_len: usize,
+            dropped: *mut u32,
+            dropped_len: usize,
+            length: *mut usize,
+            count: *mut usize,
+            spare: *mut u32,
+            pad: *mut u32,
+            wrong_length: *mut u32,
+        ) -> u32;
     }
 }
 
@@ -179,13 +193,14 @@ pub enum Refusal {
     NotHeld,
     /// 17: i is N_d or more.
     NoSuchEntity,
-    /// 18: the byte buffer is shorter than the file.
+    /// 18: the byte buffer is shorter than the file to be written.
     BufferTooShort,
     /// 19: j is N_e or more.
     NoSuchIndex,
     /// 20: more than `MOST_PAIRS` pairs, or answers that have not one place a pair.
     PairsOff,
-    /// 21: a lent list has not one place a vertex, edge or face, or coordinates are not axes times N_0.
+    /// 21: a lent list has not one place a vertex, edge or face, coordinates are not axes times N_0, or the list of cells dropped
+    /// is shorter than 2·N_D.
     ListLength,
     /// 22: a count is neither from −32,768 to 32,767 nor `MASKED`.
     CountOutside,
@@ -567,6 +582,134 @@ pub fn whole_box(book: &[u32], coordinates: &[f64], axes: u32) -> Result<Option<
         )
     };
     place.answer(book, number, (some == 1).then(|| Bounds::of(ends)))
+}
+
+/// The bytes of the longest day file.
+pub const LONGEST_FILE: usize = 26_628;
+
+/// The places that are enough for the cells dropped of any file.
+pub const DROPPED_PLACES: usize = 8_192;
+
+/// Why `salvage` dropped a cell: the first of these that applies.
+#[derive(Clone, Copy, Debug, PartialEq, Eq, Hash)]
+pub enum Why {
+    /// 6: it is not whole in the file.
+    NotWhole,
+    /// 7: it names a vertex that is N_0 or more.
+    VertexOut,
+    /// 8: it names a vertex twice.
+    VertexTwice,
+    /// 23: it has the vertices of an earlier cell that is kept.
+    CellTwice,
+}
+
+impl Why {
+    /// The paper's number of this reason: 6, 7, 8 or 23.
+    pub fn number(self) -> u32 {
+        match self {
+            Why::NotWhole => 6,
+            Why::VertexOut => 7,
+            Why::VertexTwice => 8,
+            Why::CellTwice => 23,
+        }
+    }
+
+    /// The reason that has this number, if one does.
+    pub fn of(number: u32) -> Option<Why> {
+        [Why::NotWhole, Why::VertexOut, Why::VertexTwice, Why::CellTwice].into_iter().find(|why| why.number() == number)
+    }
+}
+
+impl fmt::Display for Why {
+    fn fmt(&self, out: &mut fmt::Formatter<'_>) -> fmt::Result {
+        out.write_str(match self {
+            Why::NotWhole => "not whole in the file",
+            Why::VertexOut => "a vertex out of range",
+            Why::VertexTwice => "a vertex twice",
+            Why::CellTwice => "equal to an earlier cell",
+        })
+    }
+}
+
+/// A cell that `salvage` dropped, by its number in the file.
+#[derive(Clone, Copy, Debug, PartialEq, Eq, Hash)]
+pub struct Dropped {
+    pub cell: u32,
+    pub why: Why,
+}
+
+impl fmt::Display for Dropped {
+    fn fmt(&self, out: &mut fmt::Formatter<'_>) -> fmt::Result {
+        write!(out, "cell {}: dropped, {} ({})", self.cell, self.why, self.why.number())
+    }
+}
+
+/// What `salvage` says of a file.
+#[derive(Clone, Copy, Debug, PartialEq, Eq, Hash)]
+pub struct Salvaged {
+    /// The length of the file written.
+    pub length: usize,
+    /// The number of cells dropped.
+    pub dropped: usize,
+    /// Whether a spare bit of the file's head was set.
+    pub spare: bool,
+    /// Whether a bit after the last vertex was set, of those that the file has up to the length that its head asks.
+    pub pad: bool,
+    /// Whether the file was not as long as its head asks.
+    pub wrong_length: bool,
+}
+
+impl Salvaged {
+    /// The file that the call has written: the first bytes of its output. It panics where that is shorter than the file.
+    pub fn file<'a>(&self, out: &'a [u8]) -> &'a [u8] {
+        &out[..self.length]
+    }
+
+    /// The cells dropped, by ascending number, from the list that the call has written. It panics where the list is another one
+    /// and has not such numbers.
+    pub fn cells<'a>(&self, dropped: &'a [u32]) -> impl Iterator<Item = Dropped> + 'a {
+        let listed = &dropped[..2 * self.dropped];
+        listed.chunks_exact(2).map(|pair| Dropped { cell: pair[0], why: Why::of(pair[1]).expect("6, 7, 8 or 23") })
+    }
+}
+
+/// Salvages a day file: writes to `out` the file of the cells that can be kept, which `load` accepts in a book that is large
+/// enough, and to `dropped` two numbers for each cell dropped, which `Salvaged::cells` reads. A file that `load` accepts comes back
+/// as it is. Kept is each cell that is whole in the file, has its vertices below N_0 and none twice, and has not the vertices of an
+/// earlier cell that is kept; cells and their vertices stay in the file's order. Later bytes and places stay as they were. An
+/// `out` as long as the file is long enough, and so is `LONGEST_FILE`; `dropped` has to be 2·N_D long or longer, and
+/// `DROPPED_PLACES` always is.
+///
+/// ```no_run
+/// # let file: Vec<u8> = Vec::new();
+/// let (mut out, mut dropped) = ([0; daybook::LONGEST_FILE], [0; daybook::DROPPED_PLACES]);
+/// let said = daybook::salvage(&file, &mut out, &mut dropped)?;
+/// for cell in said.cells(&dropped) {
+///     eprintln!("{cell}");
+/// }
+/// let mut book = vec![0; daybook::words_for_sheet(2, 1900, 3700) as usize];
+/// daybook::load(said.file(&out), &mut book)?;
+/// # Ok::<(), daybook::Refusal>(())
+/// ```
+pub fn salvage(file: &[u8], out: &mut [u8], dropped: &mut [u32]) -> Result<Salvaged, Refusal> {
+    let (mut length, mut count, mut spare, mut pad, mut wrong_length) = (0, 0, 0, 0, 0);
+    // SAFETY: as in `load`.
+    let number = unsafe {
+        c::daybook_salvage(
+            file.as_ptr(),
+            file.len(),
+            out.as_mut_ptr(),
+            out.len(),
+            dropped.as_mut_ptr(),
+            dropped.len(),
+            &mut length,
+            &mut count,
+            &mut spare,
+            &mut pad,
+            &mut wrong_length,
+        )
+    };
+    answer(number, 0, Salvaged { length, dropped: count, spare: spare == 1, pad: pad == 1, wrong_length: wrong_length == 1 })
 }
 
 /// At most so many entities of dimension 1, 2 and 3, as if no two cells shared one.

@@ -1,5 +1,7 @@
 //! The paper's examples and each refusal, through the safe calls.
-use daybook::{Bounds, Found, Position, Reading, Refusal, Step, CLOSURE_MASKED, FREE_WORDS, MASKED, MOST_PAIRS};
+use daybook::{
+    Bounds, Dropped, Found, Position, Reading, Refusal, Salvaged, Step, Why, CLOSURE_MASKED, FREE_WORDS, LONGEST_FILE, MASKED, DROPPED_PLACES, MOST_PAIRS,
+};
 
 /// The two triangles {0, 1, 3} and {1, 2, 3}.
 const T: [u8; 14] = [0x80, 0x04, 0x00, 0x10, 0x00, 0x00, 0x00, 0x40, 0x06, 0x00, 0x10, 0x01, 0x00, 0x0C];
@@ -325,6 +327,113 @@ fn files_are_refused() {
     assert_eq!(refused(&again).to_string(), "refused 23, cell 1");
     assert_eq!(with(13, 0x0D), Refusal::BitsAfter);
     assert_eq!(refused(&[]), Refusal::FileTooShort);
+}
+
+/// What is said of a file, the file written and the cells dropped; with three bytes and three places more than are needed, which stay.
+fn salvaged(file: &[u8], length: usize, cells: usize) -> (Salvaged, Vec<u8>, Vec<Dropped>) {
+    let (mut out, mut dropped) = (vec![0xAA; length + 3], vec![7; 2 * cells + 3]);
+    let said = daybook::salvage(file, &mut out, &mut dropped).unwrap();
+    assert_eq!(out[said.length..], vec![0xAA; length + 3 - said.length]);
+    assert_eq!(dropped[2 * said.dropped..], vec![7; 2 * cells + 3 - 2 * said.dropped]);
+    let cells = said.cells(&dropped).collect();
+    (said, said.file(&out).to_vec(), cells)
+}
+
+/// What is said where nothing is wrong.
+const RIGHT: Salvaged = Salvaged { length: 14, dropped: 0, spare: false, pad: false, wrong_length: false };
+
+#[test]
+fn a_file_that_was_cut_is_salvaged() {
+    let one = [0x80, 0x04, 0x00, 0x08, 0x00, 0x00, 0x00, 0x40, 0x06]; // cell 0 alone
+    let (said, file, cells) = salvaged(&T[..13], 9, 2);
+    assert_eq!(said, Salvaged { length: 9, dropped: 1, wrong_length: true, ..RIGHT });
+    assert_eq!(file, one);
+    assert_eq!(cells, [Dropped { cell: 1, why: Why::NotWhole }]);
+    assert_eq!(cells[0].to_string(), "cell 1: dropped, not whole in the file (6)");
+    let words = [(Why::VertexOut, "a vertex out of range (7)"), (Why::VertexTwice, "a vertex twice (8)"), (Why::CellTwice, "equal to an earlier cell (23)")];
+    for (why, text) in words {
+        assert_eq!(Dropped { cell: 9, why }.to_string(), format!("cell 9: dropped, {text}"));
+    }
+    assert_eq!(salvaged(&T[..9], 9, 2).1, one);
+    assert_eq!(salvaged(&T[..8], 4, 2).1, [0x80, 0x04, 0x00, 0x00]);
+    let mut book = [7; 10];
+    assert_eq!(daybook::load(&file, &mut book), Ok(()));
+    assert_eq!(book, [0x80040008, 256, 0, 0, 10, 0, 3, 0, 1, 3]);
+    assert_eq!(salvaged(&file, 9, 1), (Salvaged { length: 9, ..RIGHT }, one.to_vec(), vec![]));
+}
+
+#[test]
+fn what_is_wrong_with_a_file_is_said() {
+    assert_eq!(salvaged(&T, 14, 2), (RIGHT, T.to_vec(), vec![]));
+    let with = |at: usize, byte: u8| {
+        let mut file = T;
+        file[at] = byte;
+        salvaged(&file, 14, 2)
+    };
+    assert_eq!(with(13, 0x0D), (Salvaged { pad: true, ..RIGHT }, T.to_vec(), vec![]));
+    assert_eq!(with(3, 0x17), (Salvaged { spare: true, ..RIGHT }, T.to_vec(), vec![]));
+    let mut long = T.to_vec();
+    long.extend([0xFF; 40]);
+    assert_eq!(salvaged(&long, 14, 2), (Salvaged { wrong_length: true, ..RIGHT }, T.to_vec(), vec![]));
+    assert_eq!(with(1, 0x03).2, [0, 1].map(|cell| Dropped { cell, why: Why::VertexOut }));
+}
+
+#[test]
+fn each_cell_dropped_has_its_reason() {
+    // intervals among the vertices 0 to 2: 0 1, 1 0, 2 2, 3 3, 1 2, and one that is not there
+    let file = [0x40, 0x03, 0x00, 0x30, 0x00, 0x00, 0x00, 0x40, 0x02, 0x00, 0x00, 0x01, 0x00, 0x08, 0x00, 0x60, 0x03, 0x00, 0x08, 0x00, 0x80];
+    let (said, saved, cells) = salvaged(&file, 11, 6);
+    assert_eq!(said, Salvaged { length: 11, dropped: 4, wrong_length: true, ..RIGHT });
+    assert_eq!(saved, [0x40, 0x03, 0x00, 0x10, 0, 0, 0, 0x40, 0x02, 0x00, 0x20]);
+    let why = [(1, Why::CellTwice), (2, Why::VertexTwice), (3, Why::VertexOut), (5, Why::NotWhole)];
+    assert_eq!(cells, why.map(|(cell, why)| Dropped { cell, why }));
+    assert_eq!(why.map(|(_, why)| why.number()), [23, 8, 7, 6]);
+    assert!((0..30).filter_map(Why::of).map(Why::number).eq([6, 7, 8, 23]));
+}
+
+#[test]
+fn salvages_are_refused() {
+    let refused = |file: &[u8], length: usize, places: usize| {
+        let (mut out, mut dropped) = (vec![0xAA; length], vec![7; places]);
+        let refusal = daybook::salvage(file, &mut out, &mut dropped).unwrap_err();
+        assert_eq!((out, dropped), (vec![0xAA; length], vec![7; places]));
+        refusal
+    };
+    for length in [0, 40] {
+        assert_eq!(refused(&T[..3], length, length), Refusal::FileTooShort);
+        assert_eq!(refused(&[], length, length), Refusal::FileTooShort);
+        assert_eq!(refused(&[0x3F, 0xFF, 0xFF, 0xFF], length, length), Refusal::NoDimension);
+        assert_eq!(refused(&[0x60, 0x01, 0xFF, 0xFF], length, length), Refusal::ManyVertices);
+        assert_eq!(refused(&[0x60, 0x00, 0x80, 0x0F], length, length), Refusal::ManyCells);
+    }
+    assert_eq!(refused(&T, 13, 3), Refusal::BufferTooShort);
+    assert_eq!(refused(&T, 14, 3), Refusal::ListLength);
+    assert_eq!(refused(&T[..13], 8, 4), Refusal::BufferTooShort);
+    assert_eq!(refused(&T[..13], 9, 3), Refusal::ListLength);
+    assert_eq!(refused(&T[..4], 4, 0), Refusal::ListLength);
+}
+
+#[test]
+fn any_file_has_room() {
+    let mut file = vec![0xFF; 2 * LONGEST_FILE];
+    file[..4].copy_from_slice(&[0xE0, 0x00, 0x80, 0x00]); // 4,096 tetrahedra on 8,192 vertices; each names one vertex four times
+    let (mut out, mut dropped) = (vec![0; LONGEST_FILE], vec![0; DROPPED_PLACES]);
+    let said = daybook::salvage(&file, &mut out, &mut dropped).unwrap();
+    assert_eq!(said, Salvaged { length: 4, dropped: 4096, wrong_length: true, ..RIGHT });
+    assert!(said.cells(&dropped).eq((0..4096).map(|cell| Dropped { cell, why: Why::VertexTwice })));
+    for cell in 0..4096_usize {
+        // each cell shares two vertices with the next
+        for (k, vertex) in [2 * cell, 2 * cell + 1, (2 * cell + 2) % 8192, (2 * cell + 3) % 8192].into_iter().enumerate() {
+            for bit in 0..13 {
+                let at = 32 + 13 * (4 * cell + k) + bit;
+                let mask = 0x80 >> (at % 8);
+                file[at / 8] = if vertex >> (12 - bit) & 1 == 1 { file[at / 8] | mask } else { file[at / 8] & !mask };
+            }
+        }
+    }
+    let said = daybook::salvage(&file, &mut out, &mut dropped).unwrap();
+    assert_eq!(said, Salvaged { length: LONGEST_FILE, dropped: 0, wrong_length: true, ..RIGHT });
+    assert_eq!(out, file[..LONGEST_FILE]);
 }
 
 #[test]

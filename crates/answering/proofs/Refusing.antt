@@ -8,11 +8,8 @@ use borrow.Author.Tests.{lt-ltb, le-ltb, eq-eqb, ne-eqb}
 use Rattle.rules.specs.Calls.{loadNumber, loadWords}
 use Rattle.report.specs.Lines.{report, refusedLine, tooLong}
 use Rattle.report.specs.Printed.{Printed}
+use Rattle.report.proofs.Putting.{printed-wide}
 use Rattle.answering.specs.Program.{allNumber, allWords, orRefused, printed, printedFrom}
-
--- a text of at most m bytes is one of at most n
-printed-wide : {m : ℕ} (n : ℕ) {text bs : List ℕ} {r : ℕ} {cs : List ℕ} → m ≤ n → Printed m text bs r cs → Printed n text bs r cs
-printed-wide n h p = record { size = p .size; short = omega (arith, p .short); bytes = p .bytes }
 
 module _ {n : ℕ} (text : List ℕ) {bs : List ℕ} {r : ℕ} {cs : List ℕ} where
   pub or-refused : (n ≡ 0 → ⊥) → Printed 19 (refusedLine n) bs r cs → Printed 764 (orRefused n text) bs r cs

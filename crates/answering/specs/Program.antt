@@ -1,4 +1,4 @@
--- Document 01, "Examples by hand": all relations asked for by ascending key, and what the program prints for a file.
+-- Document 01, "Examples by hand": all relations asked for by ascending key, and what dayreport prints for a file.
 use mathlib.Core.Bool.{Bool, cond, _&&_}
 use mathlib.Core.List.{List, [], _∷_}
 use Prim.Native.Nat.{ℕ, _/_, _%_}
@@ -43,7 +43,7 @@ allWords ws = asksWords (keysTo (dim ws)) ws
 unfoldable pub orRefused : ℕ → List ℕ → List ℕ
 orRefused n text = cond (eqb n 0) text (refusedLine n)
 
--- what the program prints for a file, from a book of these words
+-- what dayreport prints for a file, from a book of these words
 unfoldable pub printed : List ℕ → List ℕ → List ℕ
 printed f ws =
     let loaded = loadWords f ws in

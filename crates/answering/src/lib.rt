@@ -1,4 +1,4 @@
-// What the program prints for a file: the file is loaded, all relations are asked for by ascending key, and the book is reported.
+// What the program dayreport prints for a file: the file is loaded, all relations are asked for by ascending key, and the book is reported.
 use daybook_c::daybook_ask;
 use daybook_c::daybook_load;
 use report::refused;
@@ -57,7 +57,7 @@ fn report_all(book: &mut [u32], out: &mut [u8]) -> usize
     report(book, out)
 }
 
-// All that the program prints for a file: "too long" for more than 2,048 bytes, "refused" and the number, or the report. Gives the text's length.
+// All that dayreport prints for a file: "too long" for more than 2,048 bytes, "refused" and the number, or the report. Gives the text's length.
 pub fn answer(file: &[u8], book: &mut [u32], out: &mut [u8]) -> usize
     ensures text { λ r. ⌜ Printed 764 (printed (now (file .entry)) (now (book .entry))) (now (out .entry)) r (now (out .exit)) ⌝ }
     ensures words { λ r. ⌜ now (book .exit) ≡ printedFrom (now (file .entry)) (now (book .entry)) ⌝ }

@@ -1,9 +1,10 @@
 // The library: a day's mesh in a book of lent 32-bit words, and who touches whom in it.
 //
-// A book is a slice of words that the caller lends to each call; the library keeps nothing and
-// allocates nothing. `load` fills it from a day file; a loaded mesh takes 6 + N_D + N_D (D + 1)
-// words, and each relation more takes N_d + 1 words and one for each index. A call that does not
-// fit is refused and alters nothing.
+// A book is a slice of words that the caller lends to each call but `salvage`; the library keeps
+// nothing and allocates nothing. `load` fills it from a day file; a loaded mesh takes
+// 6 + N_D + N_D (D + 1) words, and each relation more takes N_d + 1 words and one for each index. A
+// call that does not fit is refused and alters nothing. `salvage` goes from a day file to a day
+// file: it keeps every whole cell that `load` would not fault, and lists the others.
 //
 // Word 0 is the file's first 32 bits, word 1 the sum of 2^(4d+e) over the relations d→e held, word
 // 1 + d for d = 1, 2 is N_d while d < D and some relation held names d, else 0, word 4 is the used
@@ -16,18 +17,19 @@
 //
 // | no. | given exactly when                                          | by                      |
 // |-----|-------------------------------------------------------------|-------------------------|
-// | 1   | the file is under 4 bytes                                   | load                    |
-// | 2   | D is 0                                                      | load                    |
-// | 3   | N_0 is over 8,192                                           | load                    |
-// | 4   | N_D is over 4,096                                           | load                    |
+// | 1   | the file is under 4 bytes                                   | load, salvage           |
+// | 2   | D is 0                                                      | load, salvage           |
+// | 3   | N_0 is over 8,192                                           | load, salvage           |
+// | 4   | N_D is over 4,096                                           | load, salvage           |
 // | 5   | spare bits are set                                          | load                    |
 // | 6   | the file's length is wrong                                  | load                    |
 // | 7   | a vertex is N_0 or more; with the lowest such cell          | load                    |
 // | 8   | a cell names a vertex twice; with the lowest such cell      | load                    |
 // | 9   | bits after the last vertex are set                          | load                    |
-// | 10  | the frame rule is broken                                    | all but load, ask_list  |
+// | 10  | the frame rule is broken                                    | all but load, ask_list, |
+// |     |                                                             | salvage                 |
 // | 11  | the row rule is broken; for row and find, the row's own     | all but load, ask_list, |
-// |     | offsets alone; with where: a key and a position             | held_count              |
+// |     | offsets alone; with where: a key and a position             | salvage, held_count     |
 // | 12  | d or e is over D; for close, D is 1                         | make, ask, drop, row,   |
 // |     |                                                             | find, close, box_of     |
 // | 13  | the used length afterwards would pass the book's length     | load, make, ask         |
@@ -36,11 +38,12 @@
 // |     |                                                             | box_of                  |
 // | 16  | the relation is not held                                    | drop, row, find         |
 // | 17  | i is N_d or more                                            | row, find, box_of       |
-// | 18  | the byte buffer is shorter than the file                    | write                   |
+// | 18  | the byte buffer is shorter than the file to be written      | write, salvage          |
 // | 19  | j is N_e or more                                            | find                    |
 // | 20  | half a pair, over 16 pairs, or not one place a pair         | ask_list                |
 // | 21  | a lent list is not one place a vertex, edge or face; for    | close, box_of,          |
-// |     | the boxes, not axes times N_0 long                          | whole_box               |
+// |     | the boxes, not axes times N_0 long; for salvage, it is      | whole_box, salvage      |
+// |     | shorter than 2 N_D                                          |                         |
 // | 22  | a count is not from −32,768 to 32,767, nor 65,536           | close                   |
 // | 23  | a cell has the vertices of an earlier one; with the lowest  | load, before 9          |
 // |     | such cell                                                   |                         |
@@ -52,6 +55,7 @@
 // | 27  | a coordinate is infinite or not a number                    | box_of, whole_box       |
 //
 // ask_list gives no other number as a call: what each of its asks is refused for stands among its answers.
+// salvage gives none of 6, 7, 8 and 23 as a call: they stand in its list, beside the number of each cell that it drops: 6 where the cell is not whole in the file, 23 where it has the vertices of one kept before it, and of the four the first that applies.
 mod answers;
 mod asks;
 mod drops;
@@ -90,3 +94,6 @@ pub use reading::row_answer;
 pub use reading::row_number;
 pub use reading::write;
 pub use rows::Broken;
+pub use salvaging::Salvaged;
+pub use salvaging::Saved;
+pub use salvaging::salvage;

@@ -92,12 +92,12 @@ module _ (xs : List ℕ) (i a b c d : ℕ) where
           ∙ getD-set-other one (4 * i + 1) (4 * i) b 0 (λ e. omega arith) ∙ getD-set-same xs (4 * i) a 0 (omega arith)
 
 -- words that are alike before cell n have the same n cells
-row-front : (xs ys : List ℕ) (n i : ℕ) → i < n → take (4 * n) ys ≡ take (4 * n) xs → rowAt 4 ys i ≡ rowAt 4 xs i
+pub row-front : (xs ys : List ℕ) (n i : ℕ) → i < n → take (4 * n) ys ≡ take (4 * n) xs → rowAt 4 ys i ≡ rowAt 4 xs i
 unfolding rowAt
 row-front xs ys n i l e =
     sym (front-part (4 * i) 4 (4 * n) ys (omega arith)) ∙ ap (λ (zs : List ℕ). take 4 (drop (4 * i) zs)) e ∙ front-part (4 * i) 4 (4 * n) xs (omega arith)
 
-rows-front : (xs ys : List ℕ) (n : ℕ) → take (4 * n) ys ≡ take (4 * n) xs → rowsIn 4 ys n ≡ rowsIn 4 xs n
+pub rows-front : (xs ys : List ℕ) (n : ℕ) → take (4 * n) ys ≡ take (4 * n) xs → rowsIn 4 ys n ≡ rowsIn 4 xs n
 unfolding rowsIn
 rows-front xs ys n e = rows-agree (rowAt 4 ys) (rowAt 4 xs) n (λ i l. row-front xs ys n i l e)
 

@@ -25,7 +25,7 @@ use crate::reading::cell;
 use repeats::first_repeated;
 
 // Puts a cell's vertices down as its four words.
-fn put_cell(words: &mut [u32; 16384], c: Cell, v: [Vertex; 4])
+pub fn put_cell(words: &mut [u32; 16384], c: Cell, v: [Vertex; 4])
     requires { ⌜ (c .0 < 4096) × (count (now words) ≡ 16384) ⌝ }
     ensures { λ _. ⌜ rowAt 4 (now (words .exit)) (c .0) ≡ numbers v ⌝ }
     ensures { λ _. ⌜ take (4 * c .0) (now (words .exit)) ≡ take (4 * c .0) (now (words .entry)) ⌝ }
@@ -76,7 +76,7 @@ fn is_out(v: Vertex, head: Header) -> bool
 }
 
 // Whether one of the first `n` vertices is N_0 or more.
-fn out_of(v: [Vertex; 4], n: usize, head: Header) -> bool
+pub fn out_of(v: [Vertex; 4], n: usize, head: Header) -> bool
     requires { ⌜ n ≤ 4 ⌝ }
     ensures { λ r. ⌜ r ≡ outOf (headVertices (head .0)) (take n (numbers v)) ⌝ }
 {

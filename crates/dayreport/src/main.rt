@@ -1,4 +1,4 @@
-// The program: a day file on standard input, in a book of 12,288 words; on standard output the counts of the mesh and of each relation.
+// dayreport: a day file on standard input, in a book of 12,288 words; on standard output the counts of the mesh and of each relation.
 // A read that fails is told on standard error, and nothing is printed.
 use libc::STDIN_FILENO;
 use libc::STDOUT_FILENO;

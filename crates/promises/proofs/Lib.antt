@@ -13,3 +13,4 @@ pub mod DroppedBack
 pub mod BoxOver
 pub mod Boxes
 pub mod BoxesNest
+pub mod Salvages

@@ -13,7 +13,8 @@ use Rattle.promises.specs.Plan.{writePlan}
 use Rattle.promises.specs.Demand.{FileBack, MeshBack, WordsBack, RoomToWrite}
 use Rattle.rules.proofs.Accepted.{length-filled, loads, load-accepted, accepts}
 use Rattle.rules.proofs.TrueLoad.{mesh-dims, mesh-vertices, mesh-cells, cells-are, true-load}
-use Rattle.rules.proofs.Written.{fileOf, dims-back, vertices-back, cells-back, mesh-back, file-loads, book-written, book-room}
+use Rattle.rules.proofs.Stored.{fileOf, dims-back, vertices-back, cells-back}
+use Rattle.rules.proofs.Written.{stored, mesh-back, file-loads, book-written, book-room}
 use Rattle.promises.proofs.Kept.{Kept, kept-fits, load-kept, reached-kept}
 use Rattle.promises.proofs.Planned.{write-planned}
 
@@ -24,7 +25,7 @@ kept-written m ws k = ap written (k .words) ∙ book-written m (k .formed) (k .m
 pub file-back : FileBack
 file-back f ws h =
     let k = load-kept f ws h in
-    let s = k .formed in
+    let s = stored (meshOf f) (k .formed) in
     rw (kept-written (meshOf f) (loadWords f ws) k)
     (dims-back (meshOf f) s ∙ mesh-dims f, vertices-back (meshOf f) s ∙ mesh-vertices f, cells-back (meshOf f) s ∙ mesh-cells f)
 
@@ -33,7 +34,7 @@ mesh-again m ws r =
     let k = reached-kept m ws r in
     let s = k .formed in
     rw (kept-written m ws k)
-    (cells-back m s, mesh-back m s, λ vs l. accepts (fileOf m) vs (file-loads m s vs (omega (arith, book-room m s (k .mask) (k .proper) (length ws), kept-fits m ws k))))
+    (cells-back m (stored m s), mesh-back m s, λ vs l. accepts (fileOf m) vs (file-loads m s vs (omega (arith, book-room m s (k .mask) (k .proper) (length ws), kept-fits m ws k))))
 
 -- the file that a kept book writes is accepted by every book that is as long
 kept-accepted : (m : Mesh) (ws vs : List ℕ) (k : Kept m ws) → length ws ≤ length vs → loadNumber (fileOf m) vs ≡ 0

@@ -2,3 +2,4 @@ pub mod Plan
 pub mod Demand
 pub mod Faces
 pub mod Boxes
+pub mod Salvages

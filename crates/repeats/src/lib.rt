@@ -1,6 +1,6 @@
 // Rows of equally many words: the lowest row that equals an earlier one. A row is looked for among those of its bucket, which all its words decide, and compared word by word.
 ghost use mathlib.Core.Path.{_≡_};
-ghost use mathlib.Core.Bool.{false};
+ghost use mathlib.Core.Bool.{true, false};
 ghost use Prim.Native.Nat.{ℕ, suc, _+_, _*_, _≤_, _<_};
 ghost use lib.ListN.{length};
 ghost use Rattle.rules.specs.Lists.{anyOf, same, firstRepeated};
@@ -65,8 +65,8 @@ fn in_chain(words: &[u32], size: usize, next: &[u32; 4096], from: u32, row: &[u3
     false
 }
 
-// Whether row i equals one of the rows before it, which are in the chains; else it is in them after.
-fn meet(
+// Whether row i equals one of the rows before it, which are in the chains, and are in them after; where it equals none, it is in them too.
+pub fn meet(
     words: &[u32],
     size: usize,
     head: &mut [u32; 8192],
@@ -75,6 +75,7 @@ fn meet(
 ) -> bool
     requires { ⌜ size * i + size ≤ length (now words) ⌝ ∗ ⌜ i < 4096 ⌝ ∗ ⌜ Chains (bucketAt size (now words)) 8192 4096 (now head) (now next) i ⌝ }
     ensures { λ r. ⌜ r ≡ anyOf (same (rowAt size (now (words .entry)) i)) (rowsIn size (now (words .entry)) i) ⌝ }
+    ensures { λ r. ⌜ (r ≡ true → Chains (bucketAt size (now (words .entry))) 8192 4096 (now (head .exit)) (now (next .exit)) i) ⌝ }
     ensures { λ r. ⌜ (r ≡ false → Chains (bucketAt size (now (words .entry))) 8192 4096 (now (head .exit)) (now (next .exit)) (i + 1)) ⌝ }
 {
     let row = row_at(words, size, i);

@@ -1,4 +1,4 @@
--- Document 01, "Examples by hand": the text that the program prints for T, whole, by computation.
+-- Document 01, "Examples by hand": the text that dayreport prints for T, whole, by computation.
 use mathlib.Core.Path.{_≡_, refl}
 use mathlib.Core.List.{List, [], _∷_}
 use Prim.Native.Nat.{ℕ}

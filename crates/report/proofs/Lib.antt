@@ -1,5 +1,5 @@
 -- Laws for the proofs of this crate.
-mod Putting
+pub mod Putting
 mod Decimal
 mod Texts
 pub mod Determined

@@ -36,6 +36,9 @@ put-none bs at = record { place = omega arith; short = omega arith; bytes = refl
 pub put-wide : {m : ℕ} {bs : List ℕ} {at : ℕ} {text : List ℕ} {r : ℕ} {cs : List ℕ} (n : ℕ) → length text ≤ n → Put m bs at text r cs → Put n bs at text r cs
 put-wide n l p = record { place = p .place; short = l; bytes = p .bytes }
 
+pub put-within : {m : ℕ} (n : ℕ) {bs : List ℕ} {at : ℕ} {text : List ℕ} {r : ℕ} {cs : List ℕ} → m ≤ n → Put m bs at text r cs → Put n bs at text r cs
+put-within n h p = put-wide n (omega (arith, p .short)) p
+
 module _ {m : ℕ} {bs : List ℕ} {at : ℕ} {text : List ℕ} {r : ℕ} {cs : List ℕ} (p : Put m bs at text r cs) where
   -- the bytes stay as many as they were
   pub put-long : length cs ≡ length bs
@@ -54,3 +57,7 @@ pub printed : {m : ℕ} {bs text : List ℕ} {r : ℕ} {cs : List ℕ} → Put m
 printed {m} {bs} {text} {r} {cs} p =
     let e : r ≡ length text = omega (arith, p .place) in
     record { size = e; short = omega (arith, p .short); bytes = rw e (p .bytes ∙ sets-front bs text) }
+
+-- a text of at most m bytes is one of at most n
+pub printed-wide : {m : ℕ} (n : ℕ) {text bs : List ℕ} {r : ℕ} {cs : List ℕ} → m ≤ n → Printed m text bs r cs → Printed n text bs r cs
+printed-wide n h p = record { size = p .size; short = omega (arith, p .short); bytes = p .bytes }

@@ -1,4 +1,4 @@
--- Document 01, "Examples by hand": the lines that the program prints for a book, on a refusal and on a file that is too long; a text is a list of bytes.
+-- Document 01, "Examples by hand": the lines that dayreport prints for a book, on a refusal and on a file that is too long; a text is a list of bytes.
 use mathlib.Core.Bool.{cond}
 use mathlib.Core.List.{List, [], _∷_, _++_, map}
 use Prim.Native.Nat.{ℕ, zero, suc, _+_, _/_, _%_}

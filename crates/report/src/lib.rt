@@ -1,4 +1,4 @@
-// The report: the lines that the program prints for a book, on a refusal and on a file that is too long, put into lent bytes.
+// The report: the lines that dayreport prints for a book, on a refusal and on a file that is too long, put into lent bytes; and the parts of a line, of which daysalvage makes its own.
 // A store past the end of the bytes does nothing.
 ghost use mathlib.Core.Path.{_≡_};
 ghost use mathlib.Core.Bool.{cond};
@@ -23,7 +23,7 @@ fn put_byte(out: &mut [u8], at: usize, b: u8) -> usize
 }
 
 // Puts a text.
-fn put_text(out: &mut [u8], at: usize, text: &[u8]) -> usize
+pub fn put_text(out: &mut [u8], at: usize, text: &[u8]) -> usize
     requires { ⌜ (at < 32768) × (length (now text) < 256) ⌝ }
     ensures { λ r. ⌜ Put (length (now (text .entry))) (now (out .entry)) at (now (text .entry)) r (now (out .exit)) ⌝ }
 {
@@ -37,7 +37,7 @@ fn put_text(out: &mut [u8], at: usize, text: &[u8]) -> usize
 }
 
 // Puts a number in decimal, without leading zeros.
-fn put_number(out: &mut [u8], at: usize, n: u32) -> usize
+pub fn put_number(out: &mut [u8], at: usize, n: u32) -> usize
     requires { ⌜ at < 32768 ⌝ }
     ensures { λ r. ⌜ Put 10 (now (out .entry)) at (lines.digits n) r (now (out .exit)) ⌝ }
 {

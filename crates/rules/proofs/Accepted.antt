@@ -18,6 +18,7 @@ use Rattle.rules.specs.Calls.{Rule, firstBroken, loaded, fileRules, load
 use Rattle.rules.specs.Phases.{counted}
 use Rattle.rules.specs.Closures.{lengthsRight, closeRules, closeNumber}
 use Rattle.rules.specs.Boxes.{coordinateRules, boxRules, boxNumber, wholeRules, wholeNumber}
+use Rattle.rules.specs.Salvage.{Headed, savedLength, salvageRules, salvageNumber}
 use Rattle.rules.proofs.Tests.{left, right, or-cases, neither, none-of}
 use Rattle.rules.proofs.Keep.{upTo-of}
 
@@ -407,3 +408,31 @@ wholes ws coordinates axes z =
       rows = search (left, right, not-true, not-false) depth 9;
       lent = lent ws coordinates axes c;
     }
+
+-- ---- salvage
+pub record Salvages (f bytes list : List ℕ) : Type 0 where
+  pub head : Headed f
+  pub room : savedLength f ≤ length bytes
+  pub places : 2 * fileCells f ≤ length list
+
+pub salvages : (f bytes list : List ℕ) → salvageNumber f bytes list ≡ 0 → Salvages f bytes list
+unfolding salvageNumber salvageRules allOf
+salvages f bytes list h =
+    let r = unbroken (salvageRules f bytes list) refl h in
+    record {
+      head = record {
+        long = search (left, right, not-true, ltb-false) depth 10;
+        low = let n : eqb (fileDim f) 0 ≡ false = search (left, right, not-true) depth 10 in let z = eqb-false (fileDim f) 0 n in omega arith;
+        vertices = search (left, right, not-true, ltb-false) depth 10;
+        cells = search (left, right, not-true, ltb-false) depth 10;
+      };
+      room = search (left, right, not-true, ltb-false) depth 10;
+      places = search (left, right, not-true, ltb-false) depth 10;
+    }
+
+-- and it is accepted if all that holds
+pub salvage-accepts : (f bytes list : List ℕ) → Salvages f bytes list → salvageNumber f bytes list ≡ 0
+unfolding salvageNumber salvageRules firstBroken
+salvage-accepts f bytes list a =
+    let h = a .head in
+    rw (le-ltb (length f) 4 (h .long), ne-eqb (fileDim f) 0 (omega (arith, h .low)), le-ltb 8192 (fileVertices f) (h .vertices), le-ltb 4096 (fileCells f) (h .cells), le-ltb (length bytes) (savedLength f) (a .room), le-ltb (length list) (2 * fileCells f) (a .places))

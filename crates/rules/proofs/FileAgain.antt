@@ -21,7 +21,8 @@ use Rattle.rules.proofs.Sorted.{sorted-same}
 use Rattle.rules.proofs.Accepted.{Loads, loads}
 use Rattle.rules.proofs.Bits.{length-packed}
 use Rattle.rules.proofs.TrueLoad.{mesh-dims, mesh-vertices, mesh-cells, cells-are, mesh-formed, word-zero}
-use Rattle.rules.proofs.Written.{fileOf, fileBits, map-same, bits-right, word-is, cells-back, dims-back, vertices-back, file-loads}
+use Rattle.rules.proofs.Stored.{Stored, fileBits, fileOf, bits-right, word-is, cells-back, dims-back, vertices-back}
+use Rattle.rules.proofs.Written.{map-same, stored, file-loads}
 use Rattle.rules.proofs.BitsWritten.{Bytes, bytes-same, bytes-packed}
 use Rattle.rules.proofs.Head.{head-dim, head-cells}
 use Rattle.rules.proofs.Padded.{bit-below}
@@ -109,32 +110,35 @@ module _ (f ws : List ℕ) (h : loadNumber f ws ≡ 0) where
   accepted : Loads f ws
   accepted = loads f ws h
 
+  stored-mesh : Stored (meshOf f)
+  stored-mesh = stored (meshOf f) (mesh-formed f ws accepted)
+
   again-is : again f ≡ fileOf (meshOf f)
   unfolding again fileBytes fileOf fileBits
   again-is = rw (word-zero f ws accepted, mesh-dims f, mesh-cells f, cells-are f)
 
   -- it has the same D, N_0 and cells in the same order, each cell ascending
   pub again-dim : fileDim (again f) ≡ fileDim f
-  again-dim = rw again-is (dims-back (meshOf f) (mesh-formed f ws accepted) ∙ mesh-dims f)
+  again-dim = rw again-is (dims-back (meshOf f) stored-mesh ∙ mesh-dims f)
 
   pub again-vertices : fileVertices (again f) ≡ fileVertices f
-  again-vertices = rw again-is (vertices-back (meshOf f) (mesh-formed f ws accepted) ∙ mesh-vertices f)
+  again-vertices = rw again-is (vertices-back (meshOf f) stored-mesh ∙ mesh-vertices f)
 
   pub again-cells : cellsInFile (again f) ≡ map sorted (cellsInFile f)
-  again-cells = rw again-is (cells-back (meshOf f) (mesh-formed f ws accepted) ∙ mesh-cells f)
+  again-cells = rw again-is (cells-back (meshOf f) stored-mesh ∙ mesh-cells f)
 
   again-loads : Loads (again f) (loaded (again f))
   again-loads = rw again-is (file-loads (meshOf f) (mesh-formed f ws accepted) (loaded (fileOf (meshOf f))) (le-refl _))
 
   again-word : field (again f) 0 32 ≡ field f 0 32
-  again-word = rw again-is (word-is (meshOf f) (mesh-formed f ws accepted) ∙ sym (word-zero f ws accepted))
+  again-word = rw again-is (word-is (meshOf f) stored-mesh ∙ sym (word-zero f ws accepted))
 
   again-length : length (again f) ≡ length f
   unfolding again fileBytes
   again-length = length-packed (lengthOf (fileDim f) (fileCells f)) _ ∙ sym (accepted .size)
 
   again-bytes : Bytes (again f)
-  again-bytes = rw again-is (unfold fileOf in bytes-packed (lengthOf (meshOf f .dims) (length (meshOf f .cells))) (fileBits (meshOf f)) (bits-right (meshOf f) (mesh-formed f ws accepted)))
+  again-bytes = rw again-is (unfold fileOf in bytes-packed (lengthOf (meshOf f .dims) (length (meshOf f .cells))) (fileBits (meshOf f)) (bits-right (meshOf f) stored-mesh))
 
   -- and a file whose cells ascend already comes back byte for byte
   pub again-same : Bytes f → allOf ascends (cellsInFile f) ≡ true → again f ≡ f

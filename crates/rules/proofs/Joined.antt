@@ -14,7 +14,7 @@ pub map-last {ℓ} : {A : Type ℓ} (f : ℕ → A) (i : ℕ) → map f (upTo (i
 unfolding upTo
 map-last f i = rw (add-one i) (map-append f (upTo i) (i ∷ []))
 
-joined-last : (rs : List (List ℕ)) (r : List ℕ) → joined (rs ++ (r ∷ [])) ≡ joined rs ++ r
+pub joined-last : (rs : List (List ℕ)) (r : List ℕ) → joined (rs ++ (r ∷ [])) ≡ joined rs ++ r
 joined-last rs r = joined-append rs (r ∷ []) ∙ ap (λ (t : List ℕ). joined rs ++ t) (unfold joined in append-nil r)
 
 offsets-last : (n : ℕ) (rs : List (List ℕ)) (r : List ℕ) → offsets n (rs ++ (r ∷ [])) ≡ offsets n rs ++ ((n + length (joined rs ++ r)) ∷ [])

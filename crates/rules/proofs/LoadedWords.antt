@@ -31,15 +31,15 @@ getD-filled n ws i =
 
 module _ (f : List ℕ) where
   -- the cells, each ascending
-  rows : List (List ℕ)
+  abbrev rows : List (List ℕ)
   rows = map sorted (cellsInFile f)
 
   rows-length : length rows ≡ fileCells f
-  unfolding rows cellsInFile
+  unfolding cellsInFile
   rows-length = length-map (cellsInFile f) sorted ∙ length-rows (fileCell f) (fileCells f)
 
-  row-at : (c : ℕ) → c < fileCells f → getD rows c [] ≡ sorted (fileCell f c)
-  unfolding rows cellsInFile
+  pub row-at : (c : ℕ) → c < fileCells f → getD rows c [] ≡ sorted (fileCell f c)
+  unfolding cellsInFile
   row-at c l =
       getD-map sorted (map (fileCell f) (upTo (fileCells f))) c [] [] (rw (length-rows (fileCell f) (fileCells f)) l)
       ∙ ap sorted (getD-rows (fileCell f) (fileCells f) c [] l)
@@ -59,5 +59,5 @@ module _ (f : List ℕ) where
 
   -- the used length
   pub loaded-length : length (loaded f) ≡ 6 + fileCells f + fileCells f * (fileDim f + 1)
-  unfolding loaded rows
+  unfolding loaded
   loaded-length = omega (arith, relation-long)

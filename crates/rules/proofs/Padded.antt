@@ -9,7 +9,7 @@ use native.Mathlib.Omega.{arith}
 use lib.ListN.{length}
 use lib.Dec.{eqb}
 use borrow.Author.Tests.{eqb-true, eqb-false, eq-eqb, ne-eqb}
-use Rattle.rules.specs.Lists.{upTo}
+use Rattle.rules.specs.Lists.{upTo, anyOf}
 use Rattle.rules.specs.File.{bitAt, field, fileDim, fileCells, bitsOf, lengthOf, padSet}
 use Rattle.rules.proofs.Tests.{any-is, none-of, cases}
 use Rattle.rules.proofs.Keep.{upTo-of, upTo-is}
@@ -33,6 +33,21 @@ clear-field f i (suc w) h j l =
 pub bit-below : (f : List ℕ) (i : ℕ) → bitAt f i < 2
 unfolding bitAt
 bit-below f i = omega arith
+
+-- some bit of a field is set exactly when it is not 0
+pub some-bit : (f : List ℕ) (i w : ℕ) → anyOf (λ k. eqb (bitAt f (i + k)) 1) (upTo w) ≡ not (eqb (field f i w) 0)
+some-bit f i w = go (cases (anyOf (λ k. eqb (bitAt f (i + k)) 1) (upTo w)))
+  where
+    go : (anyOf (λ k. eqb (bitAt f (i + k)) 1) (upTo w) ≡ true) ⊎ (anyOf (λ k. eqb (bitAt f (i + k)) 1) (upTo w) ≡ false)
+        → anyOf (λ k. eqb (bitAt f (i + k)) 1) (upTo w) ≡ not (eqb (field f i w) 0)
+    go (inl h) =
+        let (k, m, e) = any-is (λ k. eqb (bitAt f (i + k)) 1) (upTo w) h in
+        let q = eqb-true (bitAt f (i + k)) 1 e in
+        let n : field f i w ≡ 0 → ⊥ = λ z. omega (arith, clear-field f i w z k (upTo-is k w m)) in
+        rw (h, ne-eqb (field f i w) 0 n)
+    go (inr h) =
+        let z : field f i w ≡ 0 = field-clear f i w (λ j l. let n = eqb-false (bitAt f (i + j)) 1 (none-of (λ k. eqb (bitAt f (i + k)) 1) h (upTo-of j w l)) in omega (arith, bit-below f (i + j))) in
+        rw (h, eq-eqb (field f i w) 0 z)
 
 module _ (f : List ℕ) (l : length f ≡ lengthOf (fileDim f) (fileCells f)) where
   abbrev last : ℕ

@@ -2,17 +2,17 @@
 use mathlib.Core.Path.{_≡_, sym, _∙_}
 use mathlib.Core.Logic.{_⊎_, inl, inr}
 use mathlib.Core.Bool.{true, false, false≢true}
-use mathlib.Core.List.{List, [], List·Memᴰ as In}
-use Prim.Native.Nat.{ℕ, _<_}
+use mathlib.Core.List.{List, [], _∷_, _++_, List·Memᴰ as In}
+use Prim.Native.Nat.{ℕ, _+_, _<_}
 use native.Mathlib.Omega.{arith}
-use lib.ListN.{length, getD, take, length-take}
-use lib.Seq.{getD-take}
+use lib.ListN.{length, getD, take, length-take, length-append, List·getD-append}
+use lib.Seq.{getD-take, getD-append-add}
 use lib.Dec.{ltb}
-use Rattle.rules.specs.Lists.{upTo, same, repeated, repeats, firstRepeated}
+use Rattle.rules.specs.Lists.{upTo, anyOf, same, repeated, repeats, firstRepeated}
 use Rattle.rules.proofs.Tests.{any-of, any-is, any-none, none-of, same-refl, same-is, getD-in, cases}
 use Rattle.rules.proofs.Keep.{upTo-of, upTo-is}
 use Rattle.rules.proofs.Numbered.{length-upTo}
-use Rattle.rules.proofs.Compared.{order}
+use Rattle.rules.proofs.Compared.{order, lt-or-le}
 use Rattle.rules.proofs.Searched.{any-first, place-in}
 
 -- no two places hold the same row
@@ -60,3 +60,25 @@ module _ (rs : List (List ℕ)) where
   pub repeats-first : repeats rs ≡ ltb (firstRepeated rs) (length rs)
   unfolding repeats firstRepeated
   repeats-first = any-first (repeated rs) (upTo (length rs)) ∙ rw (length-upTo (length rs))
+
+-- a row more at the end that equals none of the others
+pub repeats-last : (rs : List (List ℕ)) (r : List ℕ) → repeats rs ≡ false → anyOf (same r) rs ≡ false → repeats (rs ++ (r ∷ [])) ≡ false
+repeats-last rs r h n = unlike-is (rs ++ (r ∷ [])) (λ i j a b e. go i j (side i a) (side j b) e)
+  where
+    side : (i : ℕ) → i < length (rs ++ (r ∷ [])) → (i < length rs) ⊎ (i ≡ length rs)
+    side i l = let m = length-append rs (r ∷ []) in elim (lt-or-le i (length rs)) [ inl x ↦ inl x | inr y ↦ inr (omega arith) ]
+
+    at : (i : ℕ) → i < length rs → getD (rs ++ (r ∷ [])) i [] ≡ getD rs i []
+    at i l = List·getD-append rs (r ∷ []) [] i l
+
+    end : (i : ℕ) → i ≡ length rs → getD (rs ++ (r ∷ [])) i [] ≡ r
+    end i q = let k : i ≡ length rs + 0 = omega arith in rw k (getD-append-add rs (r ∷ []) 0 [])
+
+    new : (j : ℕ) → j < length rs → r ≡ getD rs j [] → ⊥
+    new j l e = false≢true (sym (none-of (same r) n (getD-in rs j [] l)) ∙ rw e (same-refl (getD rs j [])))
+
+    go : (i j : ℕ) → (i < length rs) ⊎ (i ≡ length rs) → (j < length rs) ⊎ (j ≡ length rs) → getD (rs ++ (r ∷ [])) i [] ≡ getD (rs ++ (r ∷ [])) j [] → i ≡ j
+    go i j (inl x) (inl y) e = unlike-of rs h i j x y (sym (at i x) ∙ e ∙ at j y)
+    go i j (inl x) (inr y) e = absurd (new i x (sym (end j y) ∙ sym e ∙ at i x))
+    go i j (inr x) (inl y) e = absurd (new j y (sym (end i x) ∙ e ∙ at j y))
+    go i j (inr x) (inr y) e = omega arith

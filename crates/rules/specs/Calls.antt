@@ -332,3 +332,8 @@ heldNumber ws = firstBroken (heldRules ws) 0
 -- the number of relations held
 unfoldable pub heldCount : List ℕ → ℕ
 heldCount ws = length (keysHeld ws)
+
+-- ==== lent places after a call
+-- where the number is 0, `new` at the front of what was lent and the rest of that as it was; else all of it as it was
+unfoldable pub atFront : ℕ → List ℕ → List ℕ → List ℕ
+atFront n new lent = cond (eqb n 0) (new ++ drop (length new) lent) lent

@@ -48,7 +48,7 @@ loop-less c = omega arith
 loop-again : tie.Need-loop-again Inv-loop μ-loop
 loop-again c =
     let l = c .before .before .before .before .before .loop in
-    (omega (arith, c .before .before .before .before .loop-test .taken), c .before .meet .ensures .1 (c .if1 .left), below-more _ _ (l .inv .2) (met (c .before) ∙ c .if1 .left))
+    (omega (arith, c .before .before .before .before .loop-test .taken), c .before .meet .ensures .1 .1 (c .if1 .left), below-more _ _ (l .inv .2) (met (c .before) ∙ c .if1 .left))
 
 returns-2 : tie.Need-returns-2 Inv-loop μ-loop
 returns-2 c =

@@ -59,7 +59,7 @@ in-chain-requires c κs =
     (omega (arith, c .before .before .before .before .before .pre .0), (chain-links (c .before .before .before .before .before .pre .1 .1) _ (low (c .before .before)), λ i e. w .own i e ∙ ap bucketOf (sym (c .before .before .before .row-at .ensures))))
 
 returns : tie.Need-returns
-returns c = (sym (found (c .before) ∙ c .if1 .taken), λ e. absurd (true≢false e))
+returns c = (sym (found (c .before) ∙ c .if1 .taken), (λ e. c .before .before .before .before .before .before .before .pre .1 .1, λ e. absurd (true≢false e)))
 
 mul-next : tie.Need-mul-next
 mul-next c = search needs
@@ -80,7 +80,7 @@ element-write-head : tie.Need-element-write-head
 element-write-head c = omega (arith, low (c .before .before .before .before))
 
 returns-2 : tie.Need-returns-2
-returns-2 c = (sym (found (c .before) ∙ c .if1 .left), λ e. chains-more (c .before .before .before .before .before .before .before .pre .1 .1) _ (low (c .before .before .before .before)) (c .before .before .before .before .before .before .before .pre .1 .0) (sym (bucket-is (c .before .before .before .before))))
+returns-2 c = (sym (found (c .before) ∙ c .if1 .left), (λ e. absurd (true≢false (sym e)), λ e. chains-more (c .before .before .before .before .before .before .before .pre .1 .1) _ (low (c .before .before .before .before)) (c .before .before .before .before .before .before .before .pre .1 .0) (sym (bucket-is (c .before .before .before .before)))))
 
 pub meet-spec : {M : Type 1} → statement M
 meet-spec =

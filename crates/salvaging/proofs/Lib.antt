@@ -1,0 +1,5 @@
+pub mod Looking
+pub mod Keeping
+pub mod Pairs
+pub mod Answered
+pub mod Alike

@@ -1,0 +1,3 @@
+pub mod Answers
+pub mod Looked
+pub mod Listed

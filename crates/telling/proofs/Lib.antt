@@ -1,0 +1,4 @@
+-- Laws for the proofs of this crate.
+pub mod Going
+pub mod Answered
+pub mod Example
