@@ -412,6 +412,45 @@ static void compare_boxes(const Named &m) {
     must(same_ends(), "the two programs give different boxes of the whole mesh");
 }
 
+// What the sheet writes, with room for any rim and other values in it.
+struct Outline {
+    std::vector<uint32_t> across, vertices, edges;
+    std::vector<uint8_t> rim;
+    size_t length = 0, vertex_count = 0, edge_count = 0;
+    uint32_t why = 0, which = 0;
+    explicit Outline(size_t cells) : across(3 * cells, 7), vertices(DAYBOOK_RIM_VERTICES, 7), edges(DAYBOOK_RIM_EDGES, 7), rim(DAYBOOK_RIM_BYTES, 7) {}
+};
+
+// The sheet of a mesh, in a book that holds 2->0, 1->0, 2->1 and 1->2, of the words that they take, with this number for an answer; and what it takes beyond the checks of the book, beside
+// the plain program's tests and lists.
+static void compare_sheet(const Named &m, unsigned number) {
+    auto book = book_with(m, {{1, 2}});
+    plain::Book plainly = loaded(m);
+    must(plain::ask(plainly, 1, 2) && plain::drop(plainly, 0, 1), "plain ask and drop");
+    must(daybook_drop(book.data(), book.size(), 0, 1, &key, &position) == 0 && same(book, plainly), "the two programs hold different relations");
+    const size_t room = book[4];
+    book.resize(room);
+    Outline ours(m.cells.size()), theirs = ours;
+    plain::Rim said{};
+    plain::NotSheet fault{};
+    auto nothing = [] { return 0; };
+    auto sheet = [&](int) {
+        must(daybook_sheet(book.data(), room, ours.across.data(), ours.across.size(), ours.rim.data(), ours.rim.size(), ours.vertices.data(), ours.vertices.size(), ours.edges.data(),
+                           ours.edges.size(), &ours.length, &ours.vertex_count, &ours.edge_count, &ours.why, &ours.which, &key, &position) == number, "sheet");
+    };
+    auto sheet_plainly = [&](int) { must(plain::sheet(plainly, theirs.across, theirs.rim, theirs.vertices, theirs.edges, said, fault) == number, "plain sheet"); };
+    auto outline_plainly = [&](int) { must(plain::outline(plainly, theirs.across, theirs.rim, theirs.vertices, theirs.edges, said, fault) == number, "plain lists"); };
+    auto same_lists = [&] { return ours.across == theirs.across && ours.rim == theirs.rim && ours.vertices == theirs.vertices && ours.edges == theirs.edges; };
+    const int times = 61;
+    auto called = both(nothing, sheet, [&](int) { check(book, room); }, times);
+    line(m, "sheet", room, called.first, best(nothing, sheet_plainly, times));
+    must(same_lists(), "the two programs write different lists");
+    line(m, "its lists", room, called.first - called.second, best(nothing, outline_plainly, times));
+    must(same_lists(), "the two programs write different lists");
+    must(ours.length == said.length && ours.vertex_count == said.vertices && ours.edge_count == said.edges, "the two programs say different things of a rim");
+    must(ours.why == fault.why && ours.which == fault.which, "the two programs say different things of what is no sheet");
+}
+
 // A call on a book of so many words that holds all relations, a million times; the time of one. Each program gives a number for the k-th, and their sums agree.
 template <class Ours, class Theirs> void compare_calls(const Named &m, const std::string &what, size_t words, Ours ours, Theirs theirs) {
     const uint32_t calls = 1000000;
@@ -502,6 +541,13 @@ int main() {
     for (const Named &m : meshes) compare_closures(m);
     // boxes, on a book that has only been loaded
     for (const Named &m : meshes) compare_boxes(m);
+    // sheets, on a book that holds just what they need: the square, a fan with the longest rim, one with an edge more, and the square with a point that no cell uses
+    compare_sheet(meshes[0], 0);
+    compare_sheet(fan(4094), 0);
+    compare_sheet(fan(4095), DAYBOOK_LONG_RIM);
+    Named unused = meshes[0];
+    unused.name += " +1", unused.points++;
+    compare_sheet(unused, DAYBOOK_NOT_SHEET);
     // salvages, without a book; the words are those of the list of cells dropped
     for (const Named &m : meshes) compare_salvages(m);
     compare_salvage(meshes[0], "repeated", file_of(repeated(meshes[0])), meshes[0].cells.size() - 1);
@@ -512,6 +558,7 @@ int main() {
     for (unsigned n : {11, 22, 45}) compare_closures(sheet(n));
     for (unsigned n : {11, 22, 45}) compare_boxes(sheet(n));
     for (unsigned n : {11, 22, 45}) compare_salvages(sheet(n));
+    for (unsigned n : {1, 11, 22, 45}) compare_sheet(sheet(n), 0);
     // what a lent word costs that no relation needs
     for (size_t spare : {0, 1 << 18, 1 << 20}) compare(sheet(45), "0->2", {}, {{0, 2}}, spare, 5);
     // what a row or a search in one costs does not depend on the book

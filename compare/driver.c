@@ -16,6 +16,8 @@
  *   'Y' n a, the lists      the box of the whole mesh: the same, and behind the ends the place for whether there is one (4 bytes)
  *   'S' n o l, the lists    salvage: a file of n bytes, and o bytes of output and l numbers for the cells dropped as they are before it; behind
  *                           them the places for the length, the count, spare, pad and wrong_length (8, 8, 4, 4 and 4 bytes)
+ *   'U' a r v e, the lists  the sheet: a cells across, r bytes of the rim, v vertices and e edges of it as they are before it; behind them the places
+ *                           for the rim's length, its two counts, why and which (8, 8, 8, 4 and 4 bytes)
  *   'C'                     a checksum only
  *
  * Behind each letter stands what the places for a key (4 bytes) and a position (8 bytes) hold before the call.
@@ -30,6 +32,8 @@
  * lower half of the second out place is what the place for whether there is one holds.
  * For a salvage the byte buffer is the output, the first out place has checksums of the file (its lower half) and of the cells dropped (its
  * upper half), and the lower half of the second out place is a checksum of its five places, one after another.
+ * For the sheet the byte buffer is the rim, the first out place has checksums of the cells across (its lower half) and of the rim's vertices (its
+ * upper half), and the second those of the rim's edges and of its five places, one after another.
  */
 #include "daybook.h"
 #include <stdio.h>
@@ -98,7 +102,7 @@ int main(void) {
     crc_table();
     while ((call = getchar()) != EOF) {
         struct lent bytes = lend(0), pairs = lend(0), counts = lend(0), closures = lend(0), steps = lend(0), coordinates = lend(0), some = lend(0);
-        struct lent file = lend(0), dropped = lend(0), said[5] = {lend(0), lend(0), lend(0), lend(0), lend(0)};
+        struct lent file = lend(0), dropped = lend(0), across = lend(0), rim_vertices = lend(0), rim_edges = lend(0), said[5] = {lend(0), lend(0), lend(0), lend(0), lend(0)};
         struct lent place[2] = {lend(0), lend(0)};
         take(&place[0], 4), take(&place[1], 8);
         uint32_t *key = (uint32_t *)at(place[0]);
@@ -213,6 +217,20 @@ int main(void) {
             out[1] = crc(all, sizeof all);
             break;
         }
+        case 'U': {
+            unsigned char all[32], *next = all;
+            uint32_t m;
+            d = number(), e = number(), i = number(), m = number();
+            take(&across, (size_t)d * 4), take(&bytes, e), take(&rim_vertices, (size_t)i * 4), take(&rim_edges, (size_t)m * 4);
+            for (int k = 0; k < 5; k++) take(&said[k], k < 3 ? 8 : 4);
+            given = daybook_sheet(words, n, (uint32_t *)at(across), d, at(bytes), e, (uint32_t *)at(rim_vertices), i, (uint32_t *)at(rim_edges), m,
+                                  (size_t *)at(said[0]), (size_t *)at(said[1]), (size_t *)at(said[2]), (uint32_t *)at(said[3]), (uint32_t *)at(said[4]),
+                                  key, position);
+            for (int k = 0; k < 5; k++) memcpy(next, at(said[k]), said[k].size), next += said[k].size;
+            out[0] = crc(at(across), across.size) | (uint64_t)crc(at(rim_vertices), rim_vertices.size) << 32;
+            out[1] = crc(at(rim_edges), rim_edges.size) | (uint64_t)crc(all, sizeof all) << 32;
+            break;
+        }
         case 'C':
             break;
         default:
@@ -220,6 +238,7 @@ int main(void) {
         }
         uint32_t stand = stands(book) & stands(bytes) & stands(pairs) & stands(counts) & stands(closures) & stands(steps);
         stand &= stands(coordinates) & stands(some) & stands(place[0]) & stands(place[1]) & stands(file) & stands(dropped);
+        stand &= stands(across) & stands(rim_vertices) & stands(rim_edges);
         for (int k = 0; k < 5; k++) stand &= stands(said[k]);
         uint32_t rest[3] = {crc(at(book), book.size), crc(at(bytes), bytes.size), stand};
         fwrite(&given, 4, 1, stdout);
@@ -238,6 +257,7 @@ int main(void) {
         free(counts.whole), free(closures.whole), free(steps.whole);
         free(coordinates.whole), free(some.whole);
         free(file.whole), free(dropped.whole);
+        free(across.whole), free(rim_vertices.whole), free(rim_edges.whole);
         for (int k = 0; k < 5; k++) free(said[k].whole);
         free(place[0].whole), free(place[1].whole);
     }

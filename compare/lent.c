@@ -1,6 +1,6 @@
 /* Runs of the C interface that need C: the sizes that the header promises are enough, the stack that each call
  * needs, on right and on broken books and files, measured by painting it, what a search reads of a row and a salvage
- * of a file, and calls side by side in threads.
+ * of a file, what a sheet reads and writes, and calls side by side in threads.
  *
  * Prints what it measured, and ends with 1 at the first thing that is not as the header says.
  */
@@ -15,7 +15,7 @@
 #include <sys/mman.h>
 #include <unistd.h>
 
-enum { STACK = 1 << 20, THREADS = 8, ROUNDS = 6, CALLS = 14 };
+enum { STACK = 1 << 20, THREADS = 8, ROUNDS = 6, CALLS = 15 };
 
 static void fail(const char *what) {
     printf("not as the header says: %s\n", what);
@@ -70,6 +70,21 @@ static struct mesh stacked(unsigned n) {
         add(&m, low[0], low[0] + up, low[1] + up, low[2] + up);
     }
     free(flat.corners);
+    return m;
+}
+
+/* n triangles in a row: the rim has two edges more. */
+static struct mesh ribbon(unsigned n) {
+    struct mesh m = empty(2, n + 2, n);
+    for (unsigned k = 0; k < n; k++) add(&m, k, k + 1, k + 2, 0);
+    return m;
+}
+
+/* n triangles at one edge. */
+static struct mesh pages(unsigned n) {
+    struct mesh m = empty(2, n + 2, n);
+    for (unsigned k = 0; k < n; k++) add(&m, 0, 1, k + 2, 0);
+    m.sheet = 0;
     return m;
 }
 
@@ -246,6 +261,24 @@ static uint32_t salvage(const uint8_t *bytes, size_t size, struct salvaged *s) {
 
 static struct salvaged saved;
 
+/* What the sheet writes, with room for any. */
+struct outlined {
+    uint32_t across[3 * 4096];
+    uint8_t rim[DAYBOOK_RIM_BYTES];
+    uint32_t vertices[DAYBOOK_RIM_VERTICES], edges[DAYBOOK_RIM_EDGES];
+    size_t length, vertex_count, edge_count;
+    uint32_t why, which;
+};
+
+/* The sheet of a book with 3 N_D places for the cells across, and room for any rim. */
+static uint32_t outline(const uint32_t *book, size_t words, struct outlined *o, uint32_t *key, size_t *position) {
+    size_t cells = book[0] >> 3 & 0x1FFF;
+    return daybook_sheet(book, words, o->across, 3 * cells, o->rim, sizeof o->rim, o->vertices, DAYBOOK_RIM_VERTICES, o->edges, DAYBOOK_RIM_EDGES, &o->length, &o->vertex_count,
+                         &o->edge_count, &o->why, &o->which, key, position);
+}
+
+static struct outlined outlined;
+
 static void *make_call(void *place) {
     struct call *c = place;
     uint32_t cell = 0, count = 0, yes = 0;
@@ -268,6 +301,7 @@ static void *make_call(void *place) {
     case 11: c->number = box_of(c); break;
     case 12: c->number = whole_box_of(c); break;
     case 13: c->number = salvage(file, c->size, &saved); break;
+    case 14: c->number = outline(c->book, c->words, &outlined, &c->key, &c->position); break;
     default: break;
     }
     return NULL;
@@ -298,8 +332,8 @@ static void measured(struct call *c) {
 
 /* The calls that check the whole book, on one that is broken here. */
 static void find_broken(struct call *c, uint32_t key, size_t position) {
-    static const int checking[] = {1, 2, 4, 5, 9, 10, 11, 12};
-    for (int k = 0; k < 8; k++) {
+    static const int checking[] = {1, 2, 4, 5, 9, 10, 11, 12, 14};
+    for (int k = 0; k < 9; k++) {
         c->which = checking[k], c->d = 0, c->e = 0;
         c->key = 99, c->position = 99;
         measured(c);
@@ -378,6 +412,34 @@ static void measure_salvages(struct call *c, struct mesh m) {
     free(corners);
 }
 
+/* The sheet of a mesh with so many vertices more, which is accepted or refused with this number and why; where it lies, row 0 of 2 -> 1 has the last edge for its own last. */
+static void measure_sheet(struct mesh m, unsigned more, int lies, uint32_t number, uint32_t why) {
+    size_t words = 200000, start = 0, count = 0;
+    m.vertices += more;
+    struct call c = {CALLS, 0, 0, calloc(words, 4), words, file_of(m, file), 0, 0, 0};
+    if (!c.book) exit(3);
+    bare = painted(&c);
+    c.which = 14;
+    if (daybook_load(file, c.size, c.book, words, &c.number) || ask(c.book, words, 1, 2)) fail("a mesh with what the sheet needs");
+    if (lies && daybook_row(c.book, words, 2, 1, 0, &start, &count, &c.key, &c.position)) fail("the edges of cell 0");
+    if (lies) c.book[start + 2] = c.book[2] - 1;
+    memset(&outlined, 0x5A, sizeof outlined);
+    measured(&c);
+    if (c.number != number || (why && outlined.why != why)) fail("the number that a sheet gives");
+    free(c.book);
+    free(m.corners);
+}
+
+/* The longest rim, one that is too long, and each thing that makes a mesh of triangles no sheet. */
+static void measure_sheets(void) {
+    measure_sheet(ribbon(4094), 0, 0, DAYBOOK_ACCEPTED, 0);
+    if (outlined.edge_count != DAYBOOK_RIM_EDGES || outlined.length != DAYBOOK_RIM_BYTES) fail("the longest rim");
+    measure_sheet(apart(2, 2700), 0, 0, DAYBOOK_LONG_RIM, 0);
+    measure_sheet(ribbon(4096), 4094, 0, DAYBOOK_NOT_SHEET, DAYBOOK_WHY_VERTEX);
+    measure_sheet(pages(1000), 0, 0, DAYBOOK_NOT_SHEET, DAYBOOK_WHY_EDGE);
+    measure_sheet(ribbon(4096), 0, 1, DAYBOOK_NOT_SHEET, DAYBOOK_WHY_CELL);
+}
+
 static void measure(struct mesh m) {
     size_t words = 1500000;
     struct call c = {CALLS, 0, 0, calloc(words, 4), words, file_of(m, file), 0, 0, 0};
@@ -391,7 +453,9 @@ static void measure(struct mesh m) {
                 if (c.which == 2 || c.which == 8) daybook_load(file, c.size, c.book, c.words, &c.number);
                 /* phase closures, and then boxes, on one that holds 1 -> 0 and 2 -> 0; intervals have no faces, and are refused */
                 if (c.which == 9 && c.d == 0 && c.e == 0) ask(c.book, c.words, 1, 0), ask(c.book, c.words, 2, 0);
-                uint32_t due = c.which == 9 && m.dim == 1 ? DAYBOOK_DIMENSION_OVER : DAYBOOK_ACCEPTED;
+                /* the sheet on one that holds 1 -> 2 too, and so 2 -> 1; intervals and tetrahedra are none */
+                if (c.which == 14 && c.d == 0 && c.e == 0) ask(c.book, c.words, 1, 2);
+                uint32_t due = c.which == 9 && m.dim == 1 ? DAYBOOK_DIMENSION_OVER : c.which == 14 && m.dim != 2 ? DAYBOOK_NOT_SHEET : DAYBOOK_ACCEPTED;
                 measured(&c);
                 if (c.which != 2 && c.number != due) fail("the number that a call gives");
                 if (c.which == 2) ask_all(c.book, c.words);
@@ -496,14 +560,97 @@ static void reads_no_more_than_the_file(void) {
     free(m.corners);
 }
 
+/* ---- what a sheet reads and writes */
+
+/* Lent memory that ends where a page ends, and behind which no memory may be touched: where its pages begin and where it does, and the bytes of both. */
+struct walled {
+    uint8_t *pages, *at;
+    size_t size, all;
+};
+
+/* So many bytes of it. */
+static struct walled wall(size_t size) {
+    size_t page = (size_t)sysconf(_SC_PAGESIZE), own = (size + page - 1) / page * page;
+    struct walled w = {mmap(NULL, own + page, PROT_READ | PROT_WRITE, MAP_PRIVATE | MAP_ANONYMOUS, -1, 0), NULL, size, own + page};
+    if (w.pages == MAP_FAILED || mprotect(w.pages + own, page, PROT_NONE)) exit(3);
+    w.at = w.pages + own - size;
+    memset(w.at, 0x5A, size);
+    return w;
+}
+
+/* The sheet of a book that may be read and not written, of so many words, with lists behind which no memory may be touched: 1 where it touches what it may not. */
+static int oversteps(const uint32_t *book, size_t words, const struct walled lists[4], struct outlined *o, uint32_t *number) {
+    uint32_t key;
+    size_t position;
+    if (sigsetjmp(met, 1)) return 1;
+    *number = daybook_sheet(book, words, (uint32_t *)(void *)lists[0].at, lists[0].size / 4, lists[1].at, lists[1].size, (uint32_t *)(void *)lists[2].at, lists[2].size / 4,
+                            (uint32_t *)(void *)lists[3].at, lists[3].size / 4, &o->length, &o->vertex_count, &o->edge_count, &o->why, &o->which, &key, &position);
+    return 0;
+}
+
+/* The sheet with just the room that it needs, and with each list a place shorter, each before a wall: what it writes is what it writes elsewhere, and a refusal writes nothing. */
+static void sheet_between_walls(struct mesh m) {
+    static struct outlined here, there;
+    size_t words = 60000, position;
+    uint32_t *book = calloc(words, 4), cell, key, number = 99;
+    if (!book) exit(3);
+    if (daybook_load(file, file_of(m, file), book, words, &cell) || ask(book, words, 1, 2)) fail("a small mesh with what the sheet needs");
+    words = book[4];
+    if (outline(book, words, &there, &key, &position)) fail("the sheet of a small mesh");
+    struct walled lent = wall(words * 4);
+    memcpy(lent.at, book, words * 4);
+    if (mprotect(lent.pages, lent.all - (size_t)sysconf(_SC_PAGESIZE), PROT_READ)) exit(3);
+    const uint32_t *shown = (const uint32_t *)(const void *)lent.at;
+    const size_t need[4] = {12 * (size_t)m.cells, there.length, 4 * there.vertex_count, 4 * there.edge_count}, places[4] = {4, 1, 4, 4};
+    const void *wanted[4] = {there.across, there.rim, there.vertices, there.edges};
+    for (int less = 0; less <= 4; less++) { /* the list that is a place shorter, or none */
+        struct walled lists[4];
+        uint32_t due = less == 4 || !need[less] ? DAYBOOK_ACCEPTED : less == 1 ? DAYBOOK_BUFFER_TOO_SHORT : DAYBOOK_LIST_LENGTH;
+        for (int k = 0; k < 4; k++) lists[k] = wall(need[k] - (k == less && need[k] ? places[k] : 0));
+        if (oversteps(shown, words, lists, &here, &number)) fail("a sheet that touches what is not lent");
+        if (number != due) fail("the number of a sheet between walls");
+        for (int k = 0; k < 4; k++) {
+            if (!due && memcmp(lists[k].at, wanted[k], need[k])) fail("a sheet with just the room that it needs");
+            for (size_t at = 0; due && at < lists[k].size; at++)
+                if (lists[k].at[at] != 0x5A) fail("a refused sheet that writes");
+        }
+        if (less == 4 && !oversteps(shown, words + 1, lists, &here, &number)) fail("a page behind a book that may not be read");
+        for (int k = 0; k < 4; k++) munmap(lists[k].pages, lists[k].all);
+    }
+    munmap(lent.pages, lent.all);
+    free(book);
+    free(m.corners);
+}
+
+/* The surface of a tetrahedron, which has no rim. */
+static struct mesh closed(void) {
+    struct mesh m = empty(2, 4, 4);
+    add(&m, 0, 1, 2, 0), add(&m, 0, 1, 3, 0), add(&m, 0, 2, 3, 0), add(&m, 1, 2, 3, 0);
+    return m;
+}
+
+/* Ribbons and squares of many sizes, so that the lists begin at many addresses; a closed surface; and no cells at all. */
+static void sheets_stay_within(void) {
+    struct sigaction on = {0};
+    on.sa_handler = on_fault;
+    sigaction(SIGSEGV, &on, NULL);
+    for (unsigned n = 1; n < 40; n++) sheet_between_walls(ribbon(n));
+    for (unsigned n = 2; n < 24; n++) sheet_between_walls(sheet(n));
+    sheet_between_walls(closed());
+    sheet_between_walls(apart(2, 0));
+    signal(SIGSEGV, SIG_DFL);
+    printf("63 sheets read their book and write their lists and nothing behind them\n");
+}
+
 /* ---- side by side */
 
 struct worker {
     uint8_t file[32768];
     size_t size, words;
-    uint32_t *book, number, some;
+    uint32_t *book, number, some, sheet;
     double boxes[2][6];
     struct salvaged saved;
+    struct outlined outlined;
 };
 
 static void *work(void *place) {
@@ -517,6 +664,9 @@ static void *work(void *place) {
     w->number |= daybook_whole_box(w->book, w->words, coordinates, 3 * points, 3, w->boxes[1], &w->some, &key, &position);
     memset(&w->saved, 0x5A, sizeof w->saved);
     w->number |= salvage(w->file, w->size * 2 / 3, &w->saved);
+    memset(&w->outlined, 0x5A, sizeof w->outlined);
+    w->number |= ask(w->book, w->words, 1, 0);
+    w->sheet = outline(w->book, w->words, &w->outlined, &key, &position);
     return NULL;
 }
 
@@ -541,6 +691,8 @@ static void side_by_side(void) {
             if (workers[k].number || memcmp(alone.book, workers[k].book, 200000 * 4)) fail("calls on different books side by side");
             if (workers[k].some != 1 || memcmp(alone.boxes, workers[k].boxes, sizeof alone.boxes)) fail("boxes in different books side by side");
             if (memcmp(&alone.saved, &workers[k].saved, sizeof alone.saved)) fail("salvages of different files side by side");
+            if (workers[k].sheet != (k % 2 ? DAYBOOK_NOT_SHEET : DAYBOOK_ACCEPTED) || memcmp(&alone.outlined, &workers[k].outlined, sizeof alone.outlined))
+                fail("sheets in different books side by side");
             free(alone.book);
             free(workers[k].book);
         }
@@ -550,8 +702,8 @@ static void side_by_side(void) {
 
 int main(void) {
     setvbuf(stdout, NULL, _IOLBF, 0);
-    static const char *names[] = {"load", "ask", "make", "row", "write", "euler", "held_count", "find", "ask_list", "closures", "drop", "box", "whole_box", "salvage"};
-    static const size_t kilobytes[] = {128, 512, 512, 16, 64, 64, 16, 16, 512, 64, 64, 64, 128, 256};
+    static const char *names[] = {"load", "ask", "make", "row", "write", "euler", "held_count", "find", "ask_list", "closures", "drop", "box", "whole_box", "salvage", "sheet"};
+    static const size_t kilobytes[] = {128, 512, 512, 16, 64, 64, 16, 16, 512, 64, 64, 64, 128, 256, 256};
     enough("a sheet of 3,698 triangles", sheet(44));
     enough("two stacked scans of 4,056 tetrahedra", stacked(27));
     enough("a chain of 4,096 intervals", chain(4096));
@@ -568,12 +720,14 @@ int main(void) {
     measure(stacked(27));
     measure(random_cells(3, 8192, 4096));
     measure(chain(100));
+    measure_sheets();
     for (int k = 0; k < CALLS; k++) {
         printf("%s: %lu bytes of stack\n", names[k], (unsigned long)most[k]);
         if (most[k] > kilobytes[k] << 10) fail("the stack that a call needs");
     }
     reads_no_further();
     reads_no_more_than_the_file();
+    sheets_stay_within();
     side_by_side();
     return 0;
 }

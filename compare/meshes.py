@@ -71,6 +71,90 @@ def sheet(n, m):
     return 2, n * m, cells
 
 
+def ribbon(count):
+    """So many triangles in a row, each of which has an edge in common with the next; its rim has two edges more than that."""
+    return 2, count + 2, [[c, c + 1, c + 2] for c in range(count)]
+
+
+def band(count):
+    """The same, its ends joined; five or more, and with an odd number it has one side only."""
+    return 2, count, [[c, (c + 1) % count, (c + 2) % count] for c in range(count)]
+
+
+def wheel(count):
+    """So many triangles all around vertex 0, three or more."""
+    return 2, count + 1, [[0, c + 1, (c + 1) % count + 1] for c in range(count)]
+
+
+def torus(n, m):
+    """A square of n by m points whose opposite sides are one, each three or more: 2 n m triangles, and no rim."""
+    cells = []
+    for y in range(m):
+        for x in range(n):
+            a, b, c, d = [(y + down) % m * n + (x + right) % n for down in (0, 1) for right in (0, 1)]
+            cells += [[a, b, d], [a, c, d]]
+    return 2, n * m, cells
+
+
+def apart(count):
+    """So many triangles, none of which has an edge in common with another; each has a vertex in common with the next, and the last with the first."""
+    return 2, 2 * count, [[2 * c, 2 * c + 1, (2 * c + 2) % (2 * count)] for c in range(count)]
+
+
+# The surface of a tetrahedron, that of an octahedron, the torus of seven vertices, and the projective plane of six, which has one side only.
+CLOSED = ((2, 4, [list(cell) for cell in itertools.combinations(range(4), 3)]),
+          (2, 6, [[a, b, c] for a in (0, 1) for b in (2, 3) for c in (4, 5)]),
+          (2, 7, [[v, (v + k) % 7, (v + 3) % 7] for v in range(7) for k in (1, 2)]),
+          (2, 6, [[0, v, v % 5 + 1] for v in range(1, 6)] + [[v, v % 5 + 1, (v + 2) % 5 + 1] for v in range(1, 6)]))
+
+
+def surface(rng):
+    """A square, a fan, a wheel, a ribbon, a band, or a closed surface."""
+    few = rng.randrange(5, 9)
+    return rng.choice((sheet(rng.randrange(2, 5), rng.randrange(2, 4)), fan(few), wheel(few), ribbon(few), ribbon(1), band(few)) + CLOSED)
+
+
+def joined(first, second, touching):
+    """Both meshes, the second's vertices behind the first's; or so that they touch in vertex 0, which both have."""
+    more = first[1] - touching
+    return 2, more + second[1], first[2] + [[v + more if v or not touching else 0 for v in cell] for cell in second[2]]
+
+
+def shuffled(rng, mesh):
+    """The mesh with its vertices in another order, its cells too, and the vertices in each."""
+    D, points, cells = mesh
+    new = rng.sample(range(points), points)
+    return D, points, rng.sample([rng.sample([new[v] for v in cell], D + 1) for cell in cells], len(cells))
+
+
+def with_branch(rng, mesh):
+    """The mesh with one cell more, at an edge that it has, and with any third vertex or a new one; a cell that it has is not added."""
+    D, points, cells = mesh
+    a, b = rng.sample(rng.choice(cells), 2)
+    cell = [a, b, rng.choice([v for v in range(points + 1) if v not in (a, b)])]
+    return (D, points, cells) if frozenset(cell) in set(map(frozenset, cells)) else (D, max(points, cell[2] + 1), cells + [cell])
+
+
+def near_sheet(rng):
+    """One surface or two, apart or touching in a vertex. At times cells are taken out, with the vertices that then no cell has or without; or a cell more
+    stands on an edge, or there are vertices that no cell uses; or there is nothing at all."""
+    mesh = surface(rng)
+    if rng.random() < 0.3:
+        mesh = joined(mesh, surface(rng), rng.random() < 0.5)
+    if rng.random() < 0.07:
+        mesh = 2, 0, []
+    if rng.random() < 0.3:
+        D, points, cells = mesh
+        mesh = D, points, rng.sample(cells, rng.randrange(max(0, len(cells) - 4), len(cells) + 1))
+        if rng.random() < 0.7:
+            mesh = all_used(mesh)
+    while mesh[2] and rng.random() < 0.2:
+        mesh = with_branch(rng, mesh)
+    if rng.random() < 0.08:
+        mesh = mesh[0], mesh[1] + rng.randrange(1, 4), mesh[2]
+    return shuffled(rng, mesh)
+
+
 def box(n, m, k):
     """A box of n by m by k cubes, six tetrahedra each."""
     def at(x, y, z):
@@ -235,6 +319,92 @@ def lying_book(rng, room):
     inner = [counts[d] if d < D and rules.names(held, d) else 0 for d in (1, 2)]
     book = [head, sum(1 << 4 * d + e for d, e in held)] + inner + [5 + len(words)] + words
     return book + [0] * rng.choice((0, 0, 1, 20, room))
+
+
+def assembled(D, counts, rows, spare):
+    """The book with these counts and rows, and so many free words."""
+    words = [word for relation in sorted(rows) for word in rules.words_of(rows[relation])]
+    inner = [counts[d] if d < D and rules.names(rows, d) else 0 for d in (1, 2)]
+    head = D << 30 | counts[0] << 16 | counts[D] << 3
+    return [head, sum(1 << 4 * d + e for d, e in rows)] + inner + [5 + len(words)] + words + [0] * spare
+
+
+def lying_edges(rng, count, rim):
+    """For each edge the cells that it lists, one or two, and for each of so many cells its three edges, which list it. As far as it can be, so many edges
+    list one cell, or one more."""
+    places = [(cell, k) for cell in range(count) for k in range(3)]
+    rng.shuffle(places)
+    pairs, alone = [], []
+    for place in places:
+        others = [at for at, (cell, _) in enumerate(alone[-4:], max(0, len(alone) - 4)) if cell != place[0]]
+        if others and 3 * count - 2 * len(pairs) > rim + 1:
+            pairs.append([place, alone.pop(others[0])])
+        else:
+            alone.append(place)
+    edges = rng.sample(pairs + [[place] for place in alone], len(pairs) + len(alone))
+    of = {place: edge for edge, here in enumerate(edges) for place in here}
+    return [sorted(cell for cell, _ in here) for here in edges], [sorted(of[cell, k] for k in range(3)) for cell in range(count)]
+
+
+def spoil_vertices(rng, counts, rows):
+    """One to three vertices more, which no cell has."""
+    counts[0] += rng.randrange(1, 4)
+
+
+def spoil_ends(rng, counts, rows):
+    """The vertices of up to three edges, any two."""
+    for edge in rng.sample(range(counts[1]), min(counts[1], 3)):
+        rows[1, 0][edge] = sorted(rng.sample(range(counts[0]), 2))
+
+
+def spoil_edge(rng, counts, rows):
+    """The cells of one to three edges: none, or any up to four."""
+    for edge in rng.sample(range(counts[1]), min(counts[1], rng.randrange(1, 4))):
+        rows[1, 2][edge] = sorted(rng.sample(range(counts[2]), min(counts[2], rng.choice((0, 1, 2, 3, 4)))))
+
+
+def spoil_cell(rng, counts, rows):
+    """One cell, or two: an edge less; one more, which is made to list it where it can be; an edge for one of its own that does not list it; or one of its own does not list it any more."""
+    lists = rows[1, 2]
+    for cell in rng.sample(range(counts[2]), min(counts[2], rng.choice((1, 1, 2)))):
+        own, way = rows[2, 1][cell], rng.choice((0, 1, 1, 2, 2, 3, 3))
+        others = [edge for edge in range(counts[1]) if edge not in own]
+        gone = rng.choice(own) if own else None
+        if way == 0:
+            own = [edge for edge in own if edge != gone]
+        elif way == 1 and others:
+            more = rng.choice(others)
+            own = own + [more]
+            lists[more] = sorted({cell, *lists[more][:1]})
+        elif way == 2 and any(cell not in lists[edge] for edge in others):
+            own = [edge for edge in own if edge != gone] + [rng.choice([edge for edge in others if cell not in lists[edge]])]
+        elif way == 3 and own and counts[2] > 1:
+            lists[gone] = [other for other in lists[gone] if other != cell] or [(cell + 1) % counts[2]]
+        rows[2, 1][cell] = sorted(own)
+
+
+def lying_sheet(rng, count, rim, points, lies):
+    """A book that breaks no rule, tells no truth, and is mostly taken for a sheet: different cells that have each of so many vertices, as far as they can; edges with any vertices, of which
+    so many list one cell, or one more; and, as often as is said, edges more, which no cell has, second cells that have not the edge that lists them, and what makes it no sheet."""
+    triangles = list(itertools.combinations(range(points), 3))
+    count = min(count, len(triangles))
+    _, points, cells = all_used((2, points, rng.sample(triangles, count)))
+    lists, edges = lying_edges(rng, count, rim)
+    if rng.random() < lies:
+        more = rng.randrange(3 * count - len(lists) + 1)
+        lists += [sorted(rng.sample(range(count), rng.choice((1, 1, min(2, count))))) for _ in range(min(more, 3))]
+    for edge, cell in [(edge, cells_of[0]) for edge, cells_of in enumerate(lists) if len(cells_of) == 1 < count]:
+        if rng.random() < lies / 3:
+            lists[edge] = sorted([cell, rng.choice([other for other in range(count) if other != cell])])
+    counts = {0: points, 1: len(lists), 2: count}
+    ends = [sorted(rng.sample(range(points), 2)) for _ in lists]
+    rows = {(1, 0): ends, (1, 2): lists, (2, 0): [sorted(cell) for cell in cells], (2, 1): edges}
+    while rng.random() < lies:
+        rng.choice((spoil_vertices, spoil_ends, spoil_edge, spoil_cell, spoil_cell, spoil_cell))(rng, counts, rows)
+    for d, e in ((0, 0), (0, 2), (1, 1), (2, 2)):
+        if rng.random() < lies / 3:
+            rows[d, e] = [sorted(rng.sample(range(counts[e]), min(counts[e], rng.randrange(3)))) for _ in range(counts[d])]
+    return assembled(2, counts, rows, rng.choice((0, 0, 1, 20)))
 
 
 def unmade(book):

@@ -599,3 +599,77 @@ def whole_box(book, coordinates, axes):
         return number, None, None
     vertices = sorted(frame.used_vertices())
     return 0, ends(vertices, coordinates, axes) if vertices else None, None
+
+
+# ---- the sheet: triangles of which at most two meet at an edge; the cell across each edge of a cell, and the rim
+
+NONE_ACROSS = 65535
+MOST_RIM_EDGES = 4096
+WHYS = (1, 2, 3, 4)
+
+# Why a book is no sheet, and the lowest vertex, edge or cell that makes it none; with 1, another dimension, which is None.
+NotASheet = namedtuple("NotASheet", "why which")
+
+# What is said of a rim: the length of its file, and how many vertices and edges it has.
+Rim = namedtuple("Rim", "length vertices edges")
+
+
+def not_a_sheet(frame):
+    """2, 3 or 4 with the vertex, edge or cell, or None, of a right book of triangles that holds 2→1 and 1→2."""
+    used = frame.used_vertices()
+    for vertex in range(frame.counts[0]):
+        if vertex not in used:
+            return NotASheet(2, vertex)
+    cells_at = frame.rows(1, 2)
+    for edge, cells in enumerate(cells_at):
+        if len(cells) not in (1, 2):
+            return NotASheet(3, edge)
+    for cell, edges in enumerate(frame.rows(2, 1)):
+        if len(edges) != 3 or not all(cell in cells_at[edge] for edge in edges):
+            return NotASheet(4, cell)
+    return None
+
+
+def cells_across(frame):
+    """For each cell and each of its edges the other cell at that edge, NONE_ACROSS where there is none."""
+    cells_at, out = frame.rows(1, 2), []
+    for cell, edges in enumerate(frame.rows(2, 1)):
+        for edge in edges:
+            others = [other for other in cells_at[edge] if other != cell]
+            out.append(others[0] if others else NONE_ACROSS)
+    return out
+
+
+def rim_of(frame):
+    """The rim's file, the old number of each of its vertices, and that of each of its edges."""
+    edges = [edge for edge, cells in enumerate(frame.rows(1, 2)) if len(cells) == 1]
+    ends = frame.rows(1, 0)
+    vertices = sorted({v for edge in edges for v in ends[edge]})
+    new = {v: number for number, v in enumerate(vertices)}
+    return file_bytes(1, len(vertices), [[new[v] for v in ends[edge]] for edge in edges]), vertices, edges
+
+
+def sheet(book, across, rim, rim_vertices, rim_edges):
+    """(number, what is said of the rim or None, why it is no sheet or None, place); rim is a bytearray, the others are lists of numbers."""
+    frame, number, place = checked(book)
+    if number:
+        return number, None, None, place
+    if frame.D != 2:
+        return 28, None, NotASheet(1, None), None
+    if not {(1, 0), (2, 1), (1, 2)} <= frame.held:
+        return 15, None, None, None
+    fault = not_a_sheet(frame)
+    if fault:
+        return 28, None, fault, None
+    if sum(len(cells) == 1 for cells in frame.rows(1, 2)) > MOST_RIM_EDGES:
+        return 29, None, None, None
+    file, vertices, edges = rim_of(frame)
+    if len(rim) < len(file):
+        return 18, None, None, None
+    if len(across) != 3 * frame.counts[2] or len(rim_vertices) < len(vertices) or len(rim_edges) < len(edges):
+        return 21, None, None, None
+    across[:] = cells_across(frame)
+    rim[:len(file)] = file
+    rim_vertices[:len(vertices)] = vertices
+    rim_edges[:len(edges)] = edges
+    return 0, Rim(len(file), len(vertices), len(edges)), None, None

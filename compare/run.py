@@ -6,8 +6,8 @@ lent word, byte and float (by its bits), and every guard word must agree.
 --full adds meshes of the full size. It prints, for each call, how often each number was given, how often each
 answer of a list of asks and each closure of a face was written, how often random calls met each kind of place
 where a book is broken, each answer that comes of dropping relations, each kind of mesh that an Euler number was
-given for, each answer and kind of a box and of a salvage, and the seed. From 20,000 calls on each of these has to
-be met, from 200,000 on a hundred times.
+given for, each answer and kind of a box, of a salvage and of a sheet, and the seed. From 20,000 calls on each of
+these has to be met, from 200,000 on a hundred times.
 """
 
 import argparse
@@ -49,6 +49,18 @@ BOX_KINDS = ("no box",) + tuple("%s, %s" % kind for kind in itertools.product(
 SALVAGES = tuple("salvage %d" % number for number in (0, 1, 2, 3, 4, 18, 21)) + tuple("dropped %d" % why for why in rules.REASONS)
 SALVAGE_KINDS = tuple("%d over %d" % pair for pair in itertools.combinations(rules.REASONS, 2)) + (
     "6 alone", "spare alone", "pad alone", "wrong_length alone", "pad and more bytes", "18 and 21", "none kept", "comes back")
+# What the sheet gives: each number, and with 28 each why.
+SHEETS = tuple("sheet %d" % number for number in (0, 10, 11, 28, 15, 29, 18, 21)) + tuple("not a sheet, %d" % why for why in rules.WHYS)
+# What it was given for: books that calls alone have written since a load and others, with a rim and without; no cells; a cell across that does not go back; a rim that has an
+# edge twice, and one that comes to a vertex four times or more; lists longer than is needed; the dimensions that are no sheet's, also where all that is needed is held; of vertices, edges
+# and cells that make a book no sheet, more than one, and not the first; edges in no cell and in three or more; cells with two or four edges that all list them, and with three of which one does not; what each
+# relation that is missing gives alone; whatever else would have been refused after it; a rim of the most edges and of one more or less, and each list that is off alone.
+SHEET_KINDS = tuple("%s, %s" % kind for kind in itertools.product(("rim", "no rim"), ("reached", "not reached"))) + (
+    "no cells", "one way", "edge twice", "rims touch", "longer lists", "D = 1", "D = 3", "D = 3, all held") + tuple(
+    "%d, %s" % kind for kind in itertools.product((2, 3, 4), ("several", "not the first"))) + (
+    "in no cell", "in three or more", "two, listed", "four, listed", "first alone not listed", "second alone not listed", "third alone not listed", "1→0 missing", "2→1 missing", "1→2 missing", "15 over 28", "2 over 3", "2 over 4", "3 over 4",
+    "28 over 18", "28 over 21", "29 over 18", "29 over 21", "18 over 21", "4096 edges", "4095 edges", "4097 edges",
+    "across longer", "across shorter", "vertices shorter", "edges shorter")
 # Floats by their bits: zeros, the least of all and the least that is normal and its neighbour, ones, the greatest and its neighbour.
 ZEROS = (0, 1 << 63)
 SMALL = ZEROS + tuple(sign << 63 | bits for sign in (0, 1) for bits in (1, 2, (1 << 52) - 1, 1 << 52))
@@ -114,6 +126,10 @@ def packed(words):
     return struct.pack("<%dI" % len(words), *words)
 
 
+def unpacked(data):
+    return list(struct.unpack("<%dI" % (len(data) // 4), data))
+
+
 def checksum(words):
     return zlib.crc32(packed(words))
 
@@ -147,15 +163,16 @@ class Runs:
         self.table, self.book, self.past, self.made, self.sequences = {}, [], [], 0, 0
         self.sum = None  # the book's checksum, where it is known: it is taken anew after a call that writes
         self.file = None  # the file that the book was loaded from, where calls alone have written it since
+        self.rims = itertools.cycle((4097, 4096, 4095, 4200))
         self.told = None  # the key and the position that the last call gave
         self.count_kinds()
 
     def count_kinds(self):
         """Counts from 0 how often each kind of place is met, by the calls that check the whole book, by row and by find; what comes of drops; what an
-        Euler number is given for; what boxes give; and what salvages give."""
+        Euler number is given for; what boxes give; what salvages give; and what the sheet gives."""
         self.kinds = {"places": dict.fromkeys(rules.KINDS, 0), "row's": dict.fromkeys(rules.OWN_KINDS, 0), "find's": dict.fromkeys(rules.OWN_KINDS, 0),
                       "room": dict.fromkeys(ROOM, 0), "points": dict.fromkeys(POINTS, 0), "boxes": dict.fromkeys(BOXES + BOX_KINDS, 0),
-                      "salvages": dict.fromkeys(SALVAGES + SALVAGE_KINDS, 0)}
+                      "salvages": dict.fromkeys(SALVAGES + SALVAGE_KINDS, 0), "sheets": dict.fromkeys(SHEETS + SHEET_KINDS, 0)}
 
     def fail(self, what, got, wanted):
         print("DISAGREE: %s: the library says %s, the reference %s" % (what, got, wanted))
@@ -191,7 +208,7 @@ class Runs:
             raise SystemExit("%s: 25 in a book that calls alone have written" % name)
 
     def meet(self, what):
-        for row in (self.kinds["room"], self.kinds["boxes"], self.kinds["salvages"]):
+        for row in (self.kinds["room"], self.kinds["boxes"], self.kinds["salvages"], self.kinds["sheets"]):
             if what in row:
                 row[what] += 1
 
@@ -361,7 +378,7 @@ class Runs:
             out = bytearray(len(data))
             size = 0 if number else rules.salvage(data, out, [0] * 8192)[1].length
         places = places if places is not None else 0 if number else 2 * head[2]
-        return self.rng.randbytes(size), list(struct.unpack("<%dI" % places, self.rng.randbytes(4 * places)))
+        return self.rng.randbytes(size), unpacked(self.rng.randbytes(4 * places))
 
     def saved_again(self, saved):
         """What was saved, loaded into the words that it takes, and salvaged again, which gives the same."""
@@ -369,6 +386,120 @@ class Runs:
         self.use([7] * (6 + len(cells) * (D + 2)))
         self.demand("a load of what was saved", self.load(saved), 0)
         self.demand("salvaged twice", self.salvage(saved, *self.lent_for(saved)), (0, (len(saved), 0, False, False, False), saved, []))
+
+    def sheet(self, across, rim, rim_vertices, rim_edges):
+        """The call's number, and what came of it: where accepted what is said of the rim and the four lists as far as they were written, with 28 why and which."""
+        self.past = self.book
+        sizes = [len(across), len(rim), len(rim_vertices), len(rim_edges)]
+        before = self.rng.randbytes(32)
+        text = b"U" + packed(sizes) + packed(across) + bytes(rim) + packed(rim_vertices) + packed(rim_edges) + before
+        across, rim, rim_vertices, rim_edges = list(across), bytearray(rim), list(rim_vertices), list(rim_edges)
+        number, said, fault, place = rules.sheet(self.book, across, rim, rim_vertices, rim_edges)
+        after = before
+        if said:
+            after = struct.pack("<QQQ", *said) + before[24:]
+        elif fault:
+            after = before[:24] + packed(fault[:1]) + (before[28:] if fault.which is None else packed(fault[1:]))
+        first, second = checksum(across) | checksum(rim_vertices) << 32, checksum(rim_edges) | zlib.crc32(after) << 32
+        self.check("sheet", text, number, first, second, bytes(rim), (sizes, said, fault), place)
+        if number not in (10, 11):
+            self.meet_sheet(number, fault, sizes)
+        if number:
+            return number, fault
+        written = across, bytes(rim[:said.length]), rim_vertices[:said.vertices], rim_edges[:said.edges]
+        self.meet_accepted(said, sizes, *written)
+        return (number, said) + written
+
+    def meet_sheet(self, number, fault, sizes):
+        """Counts why a book is no sheet, what else would have been refused, and how long its rim and the lists are."""
+        frame = rules.Frame.of(self.book)
+        missing = [r for r in ((1, 0), (2, 1), (1, 2)) if r not in frame.held]
+        if frame.D != 2:
+            self.meet("not a sheet, 1")
+            self.meet("D = %d" % frame.D + (", all held" if not missing else ""))
+            return
+        unused = sorted(set(range(frame.counts[0])) - frame.used_vertices())
+        if missing:
+            if len(missing) == 1:
+                self.meet("%d→%d missing" % missing[0])
+            if unused:
+                self.meet("15 over 28")
+            return
+        lists = frame.rows(1, 2)
+        odd = [edge for edge, cells in enumerate(lists) if len(cells) not in (1, 2)]
+        wrong = [cell for cell, edges in enumerate(frame.rows(2, 1)) if len(edges) != 3 or any(cell not in lists[edge] for edge in edges)]
+        rim, vertices, edges = rules.rim_of(frame)
+        off = {"across longer": sizes[0] > 3 * frame.counts[2], "across shorter": sizes[0] < 3 * frame.counts[2],
+               "vertices shorter": sizes[2] < len(vertices), "edges shorter": sizes[3] < len(edges)}
+        for over, short in ((18, sizes[1] < len(rim)), (21, any(off.values()))):
+            if short:
+                self.meet("%d over %d" % (number, over))
+        if fault:
+            self.meet("not a sheet, %d" % fault.why)
+            faults = {2: unused, 3: odd, 4: wrong}
+            for other in (3, 4):
+                if other > fault.why and faults[other]:
+                    self.meet("%d over %d" % (fault.why, other))
+            if len(faults[fault.why]) > 1:
+                self.meet("%d, several" % fault.why)
+            if fault.which > 0:
+                self.meet("%d, not the first" % fault.why)
+            if fault.why == 3:
+                self.meet("in three or more" if lists[fault.which] else "in no cell")
+            if fault.why == 4:
+                listed = [fault.which in lists[edge] for edge in frame.rows(2, 1)[fault.which]]
+                self.meet({(True,) * 2: "two, listed", (True,) * 4: "four, listed", (False, True, True): "first alone not listed", (True, False, True): "second alone not listed",
+                           (True, True, False): "third alone not listed"}.get(tuple(listed)))
+            return
+        self.meet("%d edges" % len(edges))
+        if number == 21 and list(off.values()).count(True) == 1:
+            self.meet(next(name for name in off if off[name]))
+
+    def meet_accepted(self, said, sizes, across, rim, vertices, edges):
+        """Counts what the sheet was given for. In a book that calls alone have written each cell across goes back by the same edge, a load accepts the rim, and each
+        vertex of it has an even number of edges."""
+        frame, reached = rules.Frame.of(self.book), self.file is not None
+        ends, own = frame.rows(1, 0), frame.rows(2, 1)
+        self.meet("%s, %s" % ("rim" if edges else "no rim", "reached" if reached else "not reached"))
+        if not own:
+            self.meet("no cells")
+        there = {(c, edge): across[3 * c + k] for c, row in enumerate(own) for k, edge in enumerate(row)}
+        one_way = [place for place, other in there.items() if other != rules.NONE_ACROSS and there.get((other, place[1])) != place[0]]
+        at = dict.fromkeys(vertices, 0)
+        for v in [v for edge in edges for v in ends[edge]]:
+            at[v] += 1
+        loaded = rules.read_file(rim)[0]
+        for kind, met in (("one way", one_way), ("edge twice", loaded == 23), ("rims touch", any(count > 3 for count in at.values())),
+                          ("longer lists", all(size > need for size, need in zip(sizes[1:], said)))):
+            if met:
+                self.meet(kind)
+        self.demand("a number that a load can give to a rim", loaded in (0, 23), True)
+        if reached:
+            self.demand("across goes back, the rim is a file, and each vertex of it has an even number of edges", (one_way, loaded, [v for v in at if at[v] % 2]), ([], 0, []))
+
+    def places_for(self, *sizes):
+        """Lists for the cells across, the rim and its two maps, of these lengths and with any bits."""
+        across, rim, vertices, edges = [self.rng.randbytes(size * width) for size, width in zip(sizes, (4, 1, 4, 4))]
+        return unpacked(across), rim, unpacked(vertices), unpacked(edges)
+
+    def sheet_sizes(self):
+        """The lengths that the sheet needs, as far as the book says them."""
+        frame = rules.Frame.of(self.book)
+        if rules.checked(self.book)[1] or frame.D != 2 or not {(1, 0), (1, 2)} <= frame.held:
+            return [3 * frame.counts[frame.D] if frame else self.rng.randrange(10), self.rng.randrange(4, 20), self.rng.randrange(6), self.rng.randrange(6)]
+        rim, vertices, edges = rules.rim_of(frame)
+        return [3 * frame.counts[2], len(rim), len(vertices), len(edges)]
+
+    def some_sheet(self):
+        """The sheet, mostly with the lengths that it needs or longer; or with some of them too short, or too many cells across."""
+        rng, sizes = self.rng, self.sheet_sizes()
+        short = rng.choice((0, 0.1, 0.1, 0.1, 0.5))
+        for which, size in enumerate(sizes):
+            if rng.random() < short:
+                sizes[which] = max(0, size - rng.choice((1, 1, 2, 3, size)))
+            elif rng.random() < (0.05 if which == 0 else 0.4):
+                sizes[which] += rng.choice((1, 1, 2, 3, 30))
+        return self.sheet(*self.places_for(*sizes))
 
     def dimension(self):
         return self.rng.choice((0, 0, 1, 1, 2, 2, 3, 3, 4, 0xFFFFFFFF)) if self.rng.random() < 0.2 else self.rng.randrange(4)
@@ -561,6 +692,8 @@ class Runs:
             self.some_closures()
         elif rng.random() < 0.1:
             self.some_box()
+        elif rng.random() < 0.05:
+            self.some_sheet()
         else:
             self.look()
 
@@ -699,6 +832,48 @@ class Runs:
             self.use(next((book for book in books if rules.euler(book)[0] == 0), books[0]))
             self.euler()
 
+    def sheet_run(self):
+        """Sheets, and what is nearly one, in a book that calls alone have written, or in lying ones; without one of the relations, or with more; at times with a word changed, or
+        broken or damaged. A rim is then loaded, and is no sheet."""
+        rng, rim = self.rng, None
+        reached = rng.random() < 0.5
+        for _ in range(1 if reached else 8):
+            if reached:
+                self.use([7] * 2500)
+                mesh = meshes.near_sheet(rng)
+                if rng.random() < 0.15:
+                    mesh = meshes.random_mesh(rng, rng.choice((1, 2, 3, 3)), rng.choice((0, 3, 4, 6)), rng.choice((0, 1, 2, 5)))
+                self.load(rules.file_bytes(*mesh))
+                self.relation("ask", 1, 2)
+                if rng.random() < 0.3:
+                    self.relation("ask", self.dimension(), self.dimension())
+            else:
+                self.use(meshes.lying_sheet(rng, rng.choice((1, 2, 3, 4, 6)), rng.choice((0, 0, 3, 6, 40)), rng.choice((3, 4, 5, 6)), rng.choice((0.3, 0.6))))
+            if rng.random() < 0.15:
+                self.relation("drop", *rng.choice(((1, 0), (2, 1), (1, 2), (0, 1))))
+            way = rng.random()
+            if way < 0.05:
+                self.use(meshes.worn_book(rng, self.book))
+            elif way < 0.1:
+                self.use(meshes.broken_book(rng, self.book))
+            elif way < 0.15:
+                self.use(meshes.damaged_book(rng, self.book))
+            for _ in range(3 if reached else 1):
+                given = self.some_sheet()
+                rim = given[3] if given[0] == 0 else rim
+        if rim and rng.random() < 0.2:
+            self.use([7] * (6 + 3 * rules.head_of(rim)[1][2]))
+            self.demand("a rim is loaded or has an edge twice", self.load(rim) in (0, 23), True)
+            self.some_sheet()
+
+    def rim_run(self):
+        """Rims of as many edges as there may be, of one less or more, or of many more, by turns; in lying books, which have few vertices for so many. Then without room for anything."""
+        edges = next(self.rims)
+        self.use(meshes.lying_sheet(self.rng, 1400 - edges % 2, edges, 23, 0))
+        self.some_sheet()
+        self.some_sheet()
+        self.sheet(*self.places_for(0, 0, 0, 0))
+
     def broken_run(self):
         """Faults in a right book, true or lying: calls that check the whole book, and rows and searches at the offsets that are broken, or anywhere."""
         rng = self.rng
@@ -714,7 +889,7 @@ class Runs:
         for d, e, i in rng.sample(rows, min(2, len(rows))):
             self.row(d, e, i)
             self.find(d, e, i, self.number())
-        for way in rng.sample(range(8), 3):
+        for way in rng.sample(range(9), 3):
             if way < 3:
                 self.relation(("make", "ask", "drop")[way], self.dimension(), self.dimension())
             elif way == 3:
@@ -725,6 +900,8 @@ class Runs:
                 self.some_closures()
             elif way == 6:
                 self.some_box()
+            elif way == 7:
+                self.some_sheet()
             else:
                 self.look()
 
@@ -756,6 +933,7 @@ class Runs:
         self.boxes_of_full_size()
         self.repeats_of_full_size()
         self.salvages_of_full_size()
+        self.sheets_of_full_size()
         many = bytearray(rules.file_bytes(*whole))
         for at in (0, 2):
             more = bytearray(many)
@@ -873,6 +1051,52 @@ class Runs:
                 self.demand("a byte or a place less", [self.salvage(data, out[1:], dropped[1:])[0], self.salvage(data, out, dropped[1:])[0]], [18, 21])
                 self.saved_again(saved)
 
+    def sheets_of_full_size(self):
+        """Sheets of 4,096 cells, with a rim and without; ribbons, the longest that is accepted and the next two, and triangles apart, as many as there may be and as many as make one edge less
+        than there may be; with just the room that is needed, and a byte or a place less; and an edge in 1,000 cells, and vertices in none. Then lying books."""
+        alone = [(2, 3 * count, [[3 * c, 3 * c + 1, 3 * c + 2] for c in range(count)]) for count in (1365, 1366, 2730)]
+        for mesh, wanted in ((meshes.sheet(33, 65), 192), (meshes.torus(64, 32), 0), (meshes.ribbon(4094), 4096), (alone[0], 4095), (meshes.ribbon(4095), 29), (meshes.ribbon(4096), 29),
+                             (alone[1], 29), (alone[2], 29), (meshes.apart(4096), 29), (meshes.pages(1002), (28, (3, 0))), (meshes.strip(2, 8192, 0), (28, (2, 4098)))):
+            self.use([0xFFFFFFFF] * 150000)
+            self.demand("a file of the full size, and 1→2", [self.load(rules.file_bytes(*mesh)), self.relation("ask", 1, 2)], [0, 0])
+            if isinstance(wanted, int) and wanted != 29:
+                self.just_enough(len(mesh[2]), wanted, wanted)
+            else:
+                refused = wanted if wanted != 29 else (29, None)
+                for sizes in ((3 * len(mesh[2]), 40000, 20000, 20000), (0, 0, 0, 0)):
+                    self.demand("a rim that is too long, or none", self.sheet(*self.places_for(*sizes)), refused)
+        self.lies_of_full_size()
+
+    def just_enough(self, cells, vertices, edges):
+        """The sheet with just the room that it needs, or a byte or a place less; its rim is loaded then."""
+        need = [3 * cells, rules.file_length(1, edges), vertices, edges]
+        given = self.sheet(*self.places_for(*need))
+        self.demand("a sheet", given[:2], (0, tuple(need[1:])))
+        for which, number in enumerate((21, 18, 21, 21)):
+            less = need[:which] + [max(0, need[which] - 1)] + need[which + 1:]
+            self.demand("less by one", self.sheet(*self.places_for(*less))[0], number if need[which] else 0)
+        self.demand("more by one", [self.sheet(*self.places_for(need[0] + 1, *need[1:]))[0], self.sheet(*self.places_for(need[0], *[size + 1 for size in need[1:]]))[0]], [21, 0])
+        book = list(self.book)
+        self.use([7] * (6 + 3 * edges))
+        self.demand("its rim is loaded", self.load(given[3]), 0)
+        self.use(book)
+
+    def lies_of_full_size(self):
+        """4,096 cells in a ring, each with an edge to the next and one of its own, which has two vertices that no other has: the longest rim, with 8,192 vertices. Then the last vertex, the last edge
+        or the last cell makes it none."""
+        n = 4096
+        counts = {0: 2 * n, 1: 2 * n, 2: n}
+        rows = {(1, 0): [[0, 1] if edge % 2 else [edge, edge + 1] for edge in range(2 * n)], (1, 2): [[edge // 2] if edge % 2 == 0 else sorted([edge // 2, (edge // 2 + 1) % n]) for edge in range(2 * n)],
+                (2, 0): [sorted([2 * c, 2 * c + 1, (2 * c + 2) % (2 * n)]) for c in range(n)], (2, 1): [sorted([(2 * c - 1) % (2 * n), 2 * c, 2 * c + 1]) for c in range(n)]}
+        self.use(meshes.assembled(2, counts, rows, 5))
+        self.just_enough(n, 2 * n, n)
+        self.demand("the longest rim", rules.file_length(1, n), 13316)
+        for relation, at, row, wanted in (((2, 0), n - 1, [0, 1, 8190], (2, 8191)), ((1, 2), 2 * n - 1, [], (3, 8191)), ((1, 2), 2 * n - 1, [0, 1, 4095], (3, 8191)),
+                                          ((2, 1), n - 1, [8189, 8190], (4, 4095)), ((2, 1), n - 1, [0, 8190, 8191], (4, 4095))):
+            others = {**rows, relation: rows[relation][:at] + [row]}
+            self.use(meshes.assembled(2, counts, others, 0))
+            self.demand("the last row of %d→%d" % relation, self.sheet(*self.places_for(3 * n, 13316, 2 * n, n)), (28, wanted))
+
     def places_of_full_size(self):
         """The book with all relations, broken at its far end and then ever nearer: its last word, the last index of D→D, an offset of D→0, the first offset."""
         frame, book, used = rules.Frame.of(self.book), list(self.book), self.book[4]
@@ -900,7 +1124,7 @@ class Runs:
 
     def examples(self):
         """Examples by hand, whose numbers stand here as they were worked out: 10 and 11 of the paper, cells twice, searches, lists of asks, phase closures, drops,
-        unused points, boxes, and salvages."""
+        unused points, boxes, salvages, and sheets."""
         t = rules.file_bytes(2, 4, [[0, 1, 3], [1, 2, 3]])
         for room, number in ((54, 0), (53, 13)):
             self.use([7] * room)
@@ -938,6 +1162,10 @@ class Runs:
         self.salvages(t)
         self.salvages_cut()
         self.salvages_refused(t)
+        self.sheets()
+        self.sheets_that_lie()
+        self.no_sheets()
+        self.sheets_refused(t)
 
     def cells_twice(self, t):
         """A cell that repeats an earlier one, in files and in books; and an edge in three triangles, which is allowed."""
@@ -1021,7 +1249,7 @@ class Runs:
         for name, call in (("make", lambda: self.relation("make", 9, 9)), ("ask", lambda: self.relation("ask", 2, 0)), ("write", lambda: self.write(3)),
                            ("euler", self.euler), ("closures", lambda: self.closures([65535], *self.unwritten(1, 1, 1))[0]),
                            ("drop", lambda: self.relation("drop", 9, 9)), ("box", lambda: self.box([NOT_FINITE[0]], 9, 9, 9)[0]),
-                           ("whole_box", lambda: self.whole_box([NOT_FINITE[0]], 9)[0])):
+                           ("whole_box", lambda: self.whole_box([NOT_FINITE[0]], 9)[0]), ("sheet", lambda: self.sheet(*self.places_for(1, 1, 1, 1))[0])):
             self.demand("%s of a book broken at %s" % (name, place), (call(), self.told), (11, place))
         self.demand("a list", self.ask_list([9, 9, 2, 0], [7, 7]), (0, [11, 11]))
 
@@ -1440,6 +1668,120 @@ class Runs:
         most = bytes.fromhex("a0008000")
         self.demand("4,096 cells that are not there", [number(most, 4, 8192), number(most, 4, 8191), number(most, 3, 8191), number(most, 3, 8192), number(most, 4, 0)], [0, 21, 18, 18, 21])
 
+    def sheet_is(self, across, rim, vertices, edges):
+        """The sheet, with the room that it needs and with more, gives these cells across, this rim and these maps; -1 stands for no cell across."""
+        rim = bytes.fromhex(rim)
+        said, across = (len(rim), len(vertices), len(edges)), [rules.NONE_ACROSS if cell < 0 else cell for cell in across]
+        for more in ((0, 0, 0), (1, 0, 0), (0, 1, 0), (0, 0, 1), (30, 7, 9)):
+            sizes = [size + extra for size, extra in zip(said, more)]
+            self.demand("the sheet", self.sheet(*self.places_for(len(across), *sizes)), (0, said, across, rim, vertices, edges))
+
+    def laid_out(self, points, cells):
+        """A book of triangles that calls alone have written, with what the sheet needs."""
+        self.use([7] * 300)
+        self.demand("a file and 1→2", [self.load(rules.file_bytes(2, points, cells)), self.relation("ask", 1, 2)], [0, 0])
+
+    def sheets(self):
+        """T; three triangles around vertex 0, which is not at the rim; two that touch in vertex 2; a closed surface; one triangle; nothing at all. Edges are numbered cell by
+        cell, and the bytes of the rims are worked out by hand."""
+        self.laid_out(4, [[0, 1, 3], [1, 2, 3]])
+        self.sheet_is([-1, -1, 1, 0, -1, -1], "40040020" + "00000040000030008008004003", [0, 1, 2, 3], [0, 1, 3, 4])  # 0 1, 0 3, 1 2, 2 3
+        self.laid_out(4, [[2, 1, 0], [0, 2, 3], [3, 0, 1]])
+        self.demand("the edges of each cell", self.rows_of(2, 1), [[0, 1, 2], [1, 3, 4], [0, 3, 5]])
+        self.sheet_is([2, 1, -1, 0, 2, -1, 0, 1, -1], "40030018" + "00000040020020000008", [1, 2, 3], [2, 4, 5])  # 1 2, 2 3, 1 3, which are 0 1, 1 2, 0 2
+        self.laid_out(5, [[4, 2, 3], [0, 1, 2]])
+        self.sheet_is([-1] * 6, "40050030" + "001000c004004001801000000100000080020020", [0, 1, 2, 3, 4], [0, 1, 2, 3, 4, 5])  # 2 3, 2 4, 3 4, 0 1, 0 2, 1 2
+        self.laid_out(4, [[0, 1, 2], [0, 1, 3], [0, 2, 3], [1, 2, 3]])
+        self.sheet_is([1, 2, 3, 0, 2, 3, 0, 1, 3, 0, 1, 2], "40000000", [], [])
+        self.laid_out(3, [[2, 0, 1]])
+        self.sheet_is([-1] * 3, "40030018" + "00000040000020008008", [0, 1, 2], [0, 1, 2])  # 0 1, 0 2, 1 2
+        self.laid_out(0, [])
+        self.sheet_is([], "40000000", [], [])
+        with open(os.path.join(TOP, "examples", "dam.day"), "rb") as file:
+            self.use([7] * 80000)
+            self.demand("the dam", [self.load(file.read()), self.relation("ask", 1, 2)], [0, 0])
+        self.demand("the rim of the dam", self.sheet(*self.places_for(3 * 3683, 755, 231, 231))[:2], (0, (755, 231, 231)))
+
+    def lying(self, points=4, more=(), **changed):
+        """T with so many points, with an edge more or none, given by its vertices and its cells, and with other rows: each is named as in edge_ends, and has its number and its indices."""
+        names = {"edge_ends": (1, 0), "edge_cells": (1, 2), "cells": (2, 0), "cell_edges": (2, 1)}
+        rows = {(1, 0): [[0, 1], [0, 3], [1, 3], [1, 2], [2, 3]], (1, 2): [[0], [0], [0, 1], [1], [1]], (2, 0): [[0, 1, 3], [1, 2, 3]], (2, 1): [[0, 1, 2], [2, 3, 4]]}
+        for ends, cells in more:
+            rows[1, 0].append(ends)
+            rows[1, 2].append(cells)
+        for name, changes in changed.items():
+            for at, row in changes.items():
+                rows[names[name]][at] = row
+        self.use(meshes.assembled(2, {0: points, 1: len(rows[1, 0]), 2: 2}, rows, 0))
+
+    def sheets_that_lie(self):
+        """T with an edge that lists a cell too many, which has not that edge; with two edges that have the same vertices, so that no load takes its rim; and with an edge more, which no cell
+        has."""
+        self.lying()
+        self.sheet_is([-1, -1, 1, 0, -1, -1], "40040020" + "00000040000030008008004003", [0, 1, 2, 3], [0, 1, 3, 4])
+        self.lying(edge_cells={0: [0, 1]})
+        self.sheet_is([1, -1, 1, 0, -1, -1], "40040018" + "000000c002002001000c", [0, 1, 2, 3], [1, 3, 4])  # 0 3, 1 2, 2 3
+        twice = "40040020" + "00000040000010008008004003"  # 0 1, 0 1, 1 2, 2 3
+        self.lying(edge_ends={1: [0, 1]})
+        self.sheet_is([-1, -1, 1, 0, -1, -1], twice, [0, 1, 2, 3], [0, 1, 3, 4])
+        self.use([7] * 60)
+        self.demand("an edge twice", self.load(bytes.fromhex(twice)), 23)
+        self.lying(more=[([0, 2], [1])])
+        self.sheet_is([-1, -1, 1, 0, -1, -1], "40040028" + "00000040000030008008004003" + "00000080", [0, 1, 2, 3], [0, 1, 3, 4, 5])
+
+    def no_sheets(self):
+        """Why a book is no sheet, with the lowest that makes it none: intervals and tetrahedra, with all relations and without; vertices that no cell has; an edge in three cells; and lying
+        books, also where more than one thing is wrong."""
+        def why():
+            given = [self.sheet(*self.places_for(*sizes)) for sizes in ((6, 17, 4, 4), (0, 0, 0, 0), (7, 60, 60, 60))]
+            self.demand("always the same", given, given[:1] * 3)
+            return given[0]
+
+        for mesh in ((1, 2, [[0, 1]]), (3, 4, [[3, 1, 0, 2]]), (1, 0, []), (3, 3, [])):
+            self.use([7] * 300)
+            self.load(rules.file_bytes(*mesh))
+            self.demand("no relation held", why(), (28, (1, None)))
+            for d in range(mesh[0] + 1):
+                for e in range(mesh[0] + 1):
+                    self.demand("ask", self.relation("ask", d, e), 0)
+            self.demand("all relations held", why(), (28, (1, None)))
+        for points, cells, wanted in ((44, [[0, 1, 3], [1, 2, 3]], (2, 4)), (44, [[40, 41, 43], [41, 42, 43]], (2, 0)), (4, [[0, 1, 3]], (2, 2)), (1, [], (2, 0)),
+                                      (5, [[0, 1, 2], [3, 1, 0], [4, 0, 1]], (3, 0)), (5, [[2, 3, 4], [3, 4, 1], [0, 3, 4]], (3, 2)), (6, [[2, 3, 4], [3, 4, 1], [0, 3, 4]], (2, 5))):
+            self.laid_out(points, cells)
+            self.demand("%d points, cells %s" % (points, cells), why(), (28, wanted))
+        for changes, wanted in (({"points": 5}, (2, 4)), ({"points": 5, "cells": {0: [0, 1, 4], 1: [1, 2, 4]}}, (2, 3)), ({"points": 8192, "cells": {0: [1, 3, 4]}, "edge_cells": {0: []}}, (2, 0)),
+                                ({"edge_cells": {3: []}}, (3, 3)), ({"edge_cells": {3: [], 4: [], 1: []}}, (3, 1)), ({"edge_cells": {4: []}, "cell_edges": {0: [0, 1]}}, (3, 4)),
+                                ({"cell_edges": {0: [0, 1]}}, (4, 0)), ({"cell_edges": {1: [2, 3]}}, (4, 1)), ({"cell_edges": {0: [], 1: []}}, (4, 0)),
+                                ({"more": [([0, 2], [0])], "cell_edges": {0: [0, 1, 2, 5]}}, (4, 0)), ({"cell_edges": {1: [0, 3, 4]}}, (4, 1)), ({"cell_edges": {1: [1, 2, 3, 4]}}, (4, 1)),
+                                ({"cell_edges": {0: [0, 1, 3]}}, (4, 0)), ({"edge_cells": {0: [1]}}, (4, 0)), ({"edge_cells": {4: [0]}}, (4, 1)), ({"edge_cells": {2: [0]}}, (4, 1))):
+            self.lying(**changes)
+            self.demand("T with %s" % changes, why(), (28, wanted))
+
+    def sheets_refused(self, t):
+        """Each other refusal and what it goes before: T needs 6 places, 17 bytes, 4 places and 4; a relation that is missing, also where a vertex lies in no cell; a broken book."""
+        self.laid_out(4, [[0, 1, 3], [1, 2, 3]])
+        for sizes in itertools.product((5, 6, 7), (16, 17, 18), (3, 4, 5), (3, 4, 5)):
+            wanted = 18 if sizes[1] < 17 else 21 if sizes[0] != 6 or sizes[2] < 4 or sizes[3] < 4 else 0
+            self.demand("lengths %s" % (sizes,), self.sheet(*self.places_for(*sizes))[0], wanted)
+        for sizes in ((0, 17, 4, 4), (6, 0, 4, 4), (6, 17, 0, 4), (6, 17, 4, 0), (3, 17, 4, 4), (12, 17, 4, 4), (6, 3, 0, 0), (6, 8192, 8192, 8192)):
+            self.demand("lengths %s" % (sizes,), self.sheet(*self.places_for(*sizes))[0], 18 if sizes[1] < 17 else 0 if sizes[3] > 4 else 21)
+        for points in (4, 5):
+            for missing in ((1, 0), (2, 1), (1, 2)):
+                self.laid_out(points, [[0, 1, 3], [1, 2, 3]])
+                self.demand("%d→%d dropped" % missing, self.relation("drop", *missing), 0)
+                for sizes in ((6, 17, 4, 4), (0, 0, 0, 0)):
+                    self.demand("and missing", self.sheet(*self.places_for(*sizes)), (15, None))
+                self.demand("and made again", [self.relation("ask", *missing), self.relation("drop", 0, 1)], [0, 0])
+                self.demand("with 0→1 dropped", self.sheet(*self.places_for(6, 17, 4, 4))[0], 0 if points == 4 else 28)
+        self.use([7] * 60)
+        self.load(t)
+        self.demand("cells alone", self.sheet(*self.places_for(6, 17, 4, 4)), (15, None))
+        right = list(self.book)
+        for broken, number in (([0] + right[1:], 10), ([], 10), (right[:-1] + [9], 11), ([0x40020008, 16, 0, 0, 9, 0, 2, 0, 0], 11), ([0xC0000000, 1 << 12, 0, 0, 6, 0, 1], 11)):
+            self.use(broken)
+            for sizes in ((6, 17, 4, 4), (0, 0, 0, 0)):
+                self.demand("a broken book", self.sheet(*self.places_for(*sizes)), (number, None))
+
     def run(self, full):
         self.examples()
         if full:
@@ -1448,20 +1790,24 @@ class Runs:
         while self.left > 0:
             self.sequences += 1
             way = self.rng.random()
-            if way < 0.32:
+            if way < 0.27:
                 self.true_run()
-            elif way < 0.53:
+            elif way < 0.45:
                 self.strange_run()
-            elif way < 0.62:
+            elif way < 0.53:
                 self.phase_run()
-            elif way < 0.68:
+            elif way < 0.58:
                 self.points_run()
-            elif way < 0.77:
+            elif way < 0.67:
                 self.room_run()
-            elif way < 0.86:
+            elif way < 0.75:
                 self.box_run()
-            elif way < 0.91:
+            elif way < 0.8:
                 self.salvage_run()
+            elif way < 0.908:
+                self.sheet_run()
+            elif way < 0.92:
+                self.rim_run()
             else:
                 self.broken_run()
 

@@ -1,7 +1,7 @@
-"""Tests mesh.py: it makes the example files as they stand here, its pictures count the edges, colour the triangles, frame cells and
-show those that are missing as the separate program does, and Gmsh files come out as the bytes written below, or with one line that
-says what is wrong. The broken book is broken in the one word that README.md shows, the boxes that README.md shows are the separate
-program's, and so are the cells of the file that was cut.
+"""Tests mesh.py: it makes the example files as they stand here, its pictures count the edges, colour the triangles, frame cells, mark
+the rim and show the cells that are missing as the separate program does, and Gmsh files come out as the bytes written below, or with
+one line that says what is wrong. The broken book is broken in the one word that README.md shows, the boxes and the rim that README.md
+shows are the separate program's, and so are the cells of the file that was cut.
 
     python3 examples/check.py
 """
@@ -20,7 +20,7 @@ import phases  # noqa: E402
 import reference as rules  # noqa: E402
 import shapes  # noqa: E402
 
-FILES = ("t.day", "t.xy", "dam.day", "dam.xy", "dam.counts", "scan.day", "scan.xy", "stack.day", "stack.xy", "broken.book", "cut.day")
+FILES = ("t.day", "t.xy", "dam.day", "dam.xy", "dam.counts", "scan.day", "scan.xy", "stack.day", "stack.xy", "broken.book", "cut.day", "dam.rim")
 COLOURS = {"minus": -1, "cells": 0, "plus": 1, "masked": 2}
 T = bytes.fromhex("80040010 0000004006001001000c")
 TETRAHEDRON = bytes.fromhex("c0040008 00180040000020")
@@ -237,6 +237,60 @@ def missing_pictures(folder):
     demand("legends", [text.split(":")[0] for text in parts(svg)[0][-8:-3]], ["missing", "closure −1", "closure 0", "closure +1", "masked"])
 
 
+def sheet(data):
+    """The separate program's answer for a file's sheet: its number, why it is none, and the rim's edges, each with its number and its vertices."""
+    book = [0] * (1 << 18)
+    demand("load", rules.load(data, book), (0, None))
+    if data[0] >> 6 == 2:
+        demand("ask", rules.ask(book, 1, 2), (0, None))
+    across, rim, vertices, edges = [None] * (3 * (book[0] >> 3 & 0x1FFF)), bytearray(13316), [None] * 8192, [None] * 4096
+    number, said, why, _ = rules.sheet(book, across, rim, vertices, edges)
+    if number:
+        return number, why, None
+    ends = rules.read_file(bytes(rim[:said.length]))[2][2]
+    return 0, None, [(edge, *[vertices[v] for v in two]) for edge, two in zip(edges, ends)]
+
+
+def sheets():
+    """The dam is a sheet, and its rim is dam.rim; README.md has its numbers. The scan, the half that was saved and the stack are none, and README.md says why of the scan."""
+    number, _, rim = sheet(contents(HERE, "dam.day"))
+    demand("the dam is a sheet", number, 0)
+    demand("dam.rim", contents(HERE, "dam.rim").decode(), "".join("%d %d %d\n" % edge for edge in rim))
+    page, shown = contents(HERE, "..", "README.md"), "a sheet, edges at the rim: %d, vertices: %d, pieces: 3\n" % (len(rim), len({v for _, *two in rim for v in two}))
+    demand("README.md shows the rim's numbers", shown.encode() in page, True)
+    number, why, _ = sheet(contents(HERE, "scan.day"))
+    demand("the scan is no sheet", (number, why), (28, (2, 1956)))
+    demand("README.md shows why", b"no sheet: vertex %d lies in no cell\n" % why.which in page, True)
+    demand("what is left is no sheet", [sheet(data)[:2] for data in (cut(), contents(HERE, "stack.day"))], [(28, (2, 56)), (28, (1, None))])
+
+
+def lines_of(path):
+    """The lines of a path, each as a set of its ends."""
+    return [frozenset(line.split("L")) for line in path.split("M")[1:]]
+
+
+def rim_pictures(folder):
+    """The rims of T, of the dam, of two triangles that touch in a vertex, of two apart, and of a closed surface: a line for each edge that touches one cell, and no other; and how many pieces they are."""
+    two = [[0, 1, 2], [2, 3, 4]], [[0, 1, 2], [3, 4, 5]]
+    closed = rules.file_bytes(2, 4, [[0, 1, 2], [0, 1, 3], [0, 2, 3], [1, 2, 3]])
+    for data, xy, edges, pieces in ((T, "t.xy", "4 edges", "1 piece"), (contents(HERE, "dam.day"), "dam.xy", "231 edges", "3 pieces"), (rules.file_bytes(2, 5, two[0]), None, "6 edges", "1 piece"),
+                                    (rules.file_bytes(2, 6, two[1]), None, "6 edges", "2 pieces"), (closed, None, "0 edges", "0 pieces")):
+        day, beside, svg = [os.path.join(folder, name) for name in ("in.day", "in.rim", "rim.svg")]
+        words = ["--xy", os.path.join(HERE, xy)] if xy else []
+        put(beside, "".join("%d %d %d\n" % edge for edge in sheet(data)[2]))
+        demand("draw", run("draw", put(day, data), svg, "--rim", beside, *words), (0, "", ""))
+        texts, _, paths = parts(svg)
+        demand("the lines of the rim", lines_of(paths["rim"]), lines_of(paths["one"]))
+        demand("legend of the rim", texts[-4], "rim: %s, %s" % (edges, pieces))
+        demand("without a rim there is none", [run("draw", day, svg, *words), "rim" in parts(svg)[2]], [(0, "", ""), False])
+    counts, full = put(os.path.join(folder, "in.counts"), "0\n" * 4), put(os.path.join(folder, "full.day"), rules.file_bytes(2, 4, [[0, 1, 2]]))
+    demand("draw", run("draw", put(day, T), svg, "--rim", put(beside, "4 2 3\n"), "--counts", counts, "--whole", full), (0, "", ""))
+    demand("legends", [text.split(":")[0] for text in parts(svg)[0][-9:-3]], ["rim", "missing", "closure −1", "closure 0", "closure +1", "masked"])
+    heights = [float(text.getAttribute("y")) for text in minidom.parse(svg).getElementsByTagName("text")[-9:]]
+    demand("a row for each legend", sorted(set(heights)), [heights[-1] - 26 * k for k in (3, 2, 1, 0)])
+    demand("one edge of T", lines_of(parts(svg)[2]["rim"]) == lines_of(parts(svg)[2]["one"])[-1:], True)
+
+
 def boxes(name, cells=()):
     """The box of the whole mesh and those of cells, by the separate program, as README.md shows them; the coordinates are whole numbers."""
     book = [0] * (1 << 18)
@@ -309,14 +363,14 @@ def closure_pictures(folder):
     for counts, wanted in (((0, 21846, 0, -21846), [1, -1]), ((0, -21846, 65536, 21846), [-1, 2]), ((-32768, 32767, 0, -32768), [0, -1])):
         demand("closures of T", closures(t, counts)[0], wanted)
         demand("rings of T", coloured(folder, t, [], counts)[1], [])
-    xy = ["--xy", os.path.join(HERE, "dam.xy")]
+    xy = ["--xy", os.path.join(HERE, "dam.xy"), "--rim", os.path.join(HERE, "dam.rim")]
     demand("rings where residues are many", coloured(folder, dam, xy, [32767 - v * v % 65536 for v in range(1956)])[1], [])
     counts = [int(line) for line in contents(HERE, "dam.counts").split()]
     faces, masked = closures(dam, counts)
     signs = [closure for closure in faces if closure in (-1, 1)]
     texts, rings = coloured(folder, dam, xy, counts)
     demand("rings of the dam", [COLOURS[ring] for ring in rings], signs)
-    demand("texts of the dam", texts[1:-7], [{-1: "−1", 1: "+1"}[sign] for sign in signs])
+    demand("texts of the dam", texts[1:-8], [{-1: "−1", 1: "+1"}[sign] for sign in signs])
     demand("dam.svg is what draw writes", contents(folder, "closures.svg") == contents(HERE, "dam.svg"), True)
     shown = "faces: %d, closures -1: %d, 0: %d, +1: %d, masked: %d; edges: %d, masked: %d\n" % (
         len(faces), faces.count(-1), faces.count(0), faces.count(1), faces.count(2), len(masked), sum(masked))
@@ -371,6 +425,13 @@ def refusals(folder):
         said = "%s: there is no cell %s\n" % (day, cell)
         demand("draw", run("draw", put(day, T), svg, "--xy", os.path.join(HERE, "t.xy"), "--box=" + cell), (1, "", said))
     demand("draw", run("draw", put(day, T), svg, "--box", "1"), (1, "", "%s: boxes are of places, and there is no --xy\n" % day))
+    rim, numbers = os.path.join(folder, "bad.rim"), "a line is not three whole numbers"
+    for text, words in (("0 0 1\n1 0\n", numbers), ("0 0 1\n1 0 x\n", numbers), ("0 0 1 3\n", numbers), ("\n", numbers), (b"\xff\n", numbers), ("0 0 1\n5 2 3\n", "there is no edge 5 with the vertices 2 and 3"),
+                        ("-1 2 3\n", "there is no edge -1 with the vertices 2 and 3"), ("1 0 1\n", "there is no edge 1 with the vertices 0 and 1"), ("0 1 0\n", "there is no edge 0 with the vertices 1 and 0")):
+        demand("draw", run("draw", put(day, T), svg, "--rim", put(rim, text)), (1, "", "%s: %s\n" % (rim, words)))
+    for D, data in ((1, rules.file_bytes(1, 4, [[0, 1]])), (3, TETRAHEDRON)):
+        demand("draw", run("draw", put(day, data), svg, "--rim", put(rim, "0 0 1\n")), (1, "", "%s: D is %d, and only triangles have a rim\n" % (day, D)))
+    demand("draw", run("draw", put(day, T), svg, "--rim", svg), (1, "", "%s: No such file or directory\n" % svg))
     whole = os.path.join(folder, "whole.day")
     for data, words in ((T[:13], "refused 6"), (b"\x80\x03" + T[2:], "refused 7, cell 0"), (rules.file_bytes(2, 5, [[0, 1, 3]]), "D and N_0 are not those of " + day),
                         (rules.file_bytes(3, 4, []), "D and N_0 are not those of " + day)):
@@ -428,13 +489,15 @@ def main():
         broken()
         scan()
         framed()
+        sheets()
         pictures(folder)
         closure_pictures(folder)
         framed_pictures(folder)
         missing_pictures(folder)
+        rim_pictures(folder)
         refusals(folder)
         gmsh_files(folder)
-    print("examples: the files are as they are made, the pictures count, colour and frame right and show what is missing, Gmsh files are read or refused as they should be")
+    print("examples: the files are as they are made, the pictures count, colour and frame right, mark the rim and show what is missing, Gmsh files are read or refused as they should be")
 
 
 if __name__ == "__main__":

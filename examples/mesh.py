@@ -1,9 +1,9 @@
 #!/usr/bin/env python3
-"""The example meshes: writes their day files, one that was cut, and a broken book, turns a Gmsh file into a day file, and draws a day file.
+"""The example meshes: writes their day files, one that was cut, a rim, and a broken book, turns a Gmsh file into a day file, and draws a day file.
 
     python3 examples/mesh.py make
     python3 examples/mesh.py from-msh IN.msh OUT.day [--xy OUT.xy]
-    python3 examples/mesh.py draw FILE.day [--xy FILE.xy] [--counts FILE.counts] [--box CELL]... [--whole WHOLE.day] OUT.svg
+    python3 examples/mesh.py draw FILE.day [--xy FILE.xy] [--counts FILE.counts] [--box CELL]... [--whole WHOLE.day] [--rim FILE.rim] OUT.svg
 
 A day file has no coordinates. They stand beside it, one line "x y" for each vertex. Where there are none, `draw` lays the
 mesh out by how many edges part two vertices, so that what is far apart along the mesh is far apart in the picture.
@@ -17,6 +17,9 @@ to be there.
 
 With --whole `draw` also shows, by their edges, the cells that are missing: those of WHOLE.day that FILE.day has not. Both have the
 same D and the same vertices.
+
+With --rim `draw` also marks the rim of a sheet. FILE.rim is what examples/rim.c prints: a line for each edge of the rim, with the
+edge's number and its two vertices.
 """
 
 import argparse
@@ -66,6 +69,16 @@ def broken_book():
     return struct.pack("<128I", *book)
 
 
+def rim_lines(mesh):
+    """The rim of a sheet, by the separate program, as examples/rim.c prints it."""
+    book = [0] * (16 + mesh[1] + 29 * len(mesh[2]))
+    rules.load(rules.file_bytes(*mesh), book)
+    rules.ask(book, 1, 2)
+    frame = rules.Frame.of(book)
+    ends = frame.rows(1, 0)
+    return ["%d %d %d\n" % (edge, *ends[edge]) for edge in rules.rim_of(frame)[2]]
+
+
 def make(folder):
     for shape in (shapes.t, shapes.dam, shapes.scan, shapes.stack):
         mesh, places = shape()
@@ -80,6 +93,9 @@ def make(folder):
             whole = rules.file_bytes(*mesh)
             write(os.path.join(folder, "cut.day"), whole[:len(whole) // 2])
             print("cut.day: the first %d of the %d bytes of dam.day" % (len(whole) // 2, len(whole)))
+            lines = rim_lines(mesh)
+            write(path + ".rim", "".join(lines))
+            print("dam.rim: %d edges" % len(lines))
     write(os.path.join(folder, "broken.book"), broken_book())
     print("broken.book: 128 words")
 
@@ -122,6 +138,21 @@ def counts_of(path, points):
     return counts
 
 
+def rim_of(path, edges):
+    """The edges of a rim by their vertices; each is one of the mesh's edges, by its number."""
+    try:
+        lines = [[int(number) for number in line.split()] for line in read(path).decode().splitlines()]
+        right = all(len(line) == 3 for line in lines)
+    except ValueError:
+        right = False
+    if not right:
+        sys.exit("%s: a line is not three whole numbers" % path)
+    for edge, *vertices in lines:
+        if not 0 <= edge < len(edges) or edges[edge][0] != tuple(vertices):
+            sys.exit("%s: there is no edge %d with the vertices %d and %d" % (path, edge, *vertices))
+    return [tuple(vertices) for _, *vertices in lines]
+
+
 def mesh_of(path, before=""):
     """The mesh of a day file; where it is refused, the words that go before that."""
     number, cell, mesh = rules.read_file(read(path))
@@ -130,10 +161,12 @@ def mesh_of(path, before=""):
     return mesh
 
 
-def draw(day, xy, counts, boxes, whole, svg):
+def draw(day, xy, counts, boxes, whole, rim, svg):
     mesh = mesh_of(day)
     if counts and mesh[0] != 2:
         sys.exit("%s: D is %d, and only triangles are coloured by their closure" % (day, mesh[0]))
+    if rim and mesh[0] != 2:
+        sys.exit("%s: D is %d, and only triangles have a rim" % (day, mesh[0]))
     for cell in boxes:
         if not 0 <= cell < len(mesh[2]):
             sys.exit("%s: there is no cell %d" % (day, cell))
@@ -143,7 +176,7 @@ def draw(day, xy, counts, boxes, whole, svg):
     if full and full[:2] != mesh[:2]:
         sys.exit("%s: D and N_0 are not those of %s" % (whole, day))
     write(svg, picture.drawing(os.path.basename(day), mesh, places_of(xy, mesh[1]) if xy else None,
-                               counts_of(counts, mesh[1]) if counts else None, boxes, full))
+                               counts_of(counts, mesh[1]) if counts else None, boxes, full, rim_of(rim, picture.edges_of(2, mesh[2])) if rim else None))
 
 
 def main():
@@ -162,13 +195,14 @@ def main():
     showing.add_argument("--counts", help="the vertices' phases, to colour triangles by their closure")
     showing.add_argument("--box", type=int, action="append", default=[], metavar="CELL", help="a cell to frame by its box, and the whole mesh")
     showing.add_argument("--whole", metavar="DAY", help="the day file that has the cells that are missing")
+    showing.add_argument("--rim", help="the edges of the rim, to mark it")
     given = parser.parse_args()
     if given.command == "make":
         make(given.to)
     elif given.command == "from-msh":
         from_msh(given.msh, given.day, given.xy)
     else:
-        draw(given.day, given.xy, given.counts, given.box, given.whole, given.svg)
+        draw(given.day, given.xy, given.counts, given.box, given.whole, given.rim, given.svg)
 
 
 if __name__ == "__main__":

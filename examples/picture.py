@@ -1,5 +1,5 @@
 """A mesh as an SVG picture, its edges coloured by how many cells they touch and, where there are counts, its triangles by their closure;
-some cells may be framed, and those that a whole mesh has besides may be shown as missing."""
+some cells may be framed, those that a whole mesh has besides may be shown as missing, and the rim of a sheet may be marked."""
 
 import math
 from xml.sax.saxutils import escape
@@ -11,7 +11,7 @@ import shapes
 KINDS = ("one", "two", "more")
 COLOURS = {"one": "#d4570a", "two": "#5a7891", "more": "#7b2d9c"}
 WORDS = {"one": ("border, ", "1 cell"), "two": ("inside, ", "2 cells"), "more": ("branching, ", "3 or more cells")}
-INK, CELL, PAPER, FRAME, MISSING = "#22303c", "#e6eef5", "#ffffff", "#0b7a4b", "#c4cad0"
+INK, CELL, PAPER, FRAME, MISSING, RIM = "#22303c", "#e6eef5", "#ffffff", "#0b7a4b", "#c4cad0", "#ffc22e"
 FACES = {-1: "minus", 0: "cells", 1: "plus", 2: "masked"}
 FILLS = {-1: "#0a62d0", 0: CELL, 1: "#d0104c", 2: "#b4bac0"}
 SIGNS = {-1: "−1", 0: "0", 1: "+1"}
@@ -47,6 +47,22 @@ def middle(corners):
     return sum(x for x, _ in corners) / 3, sum(y for _, y in corners) / 3
 
 
+def pieces_of(rim):
+    """How many pieces these edges are, where those with a common vertex hang together."""
+    at = {}
+    for edge in rim:
+        for v in edge:
+            at.setdefault(v, []).append(edge)
+    left, pieces = set(rim), 0
+    while left:
+        pieces, edges = pieces + 1, [left.pop()]
+        while edges:
+            beside = left.intersection(edge for v in edges.pop() for edge in at[v])
+            left -= beside
+            edges += beside
+    return pieces
+
+
 def spread(mesh, edges):
     """Places for a mesh without coordinates. One that cannot lie flat is given depth."""
     flat = mesh[0] < 3 and all(count < 3 for _, count in edges)
@@ -56,8 +72,9 @@ def spread(mesh, edges):
 class Picture:
     """The lines of the picture so far. The edges of one colour are one path, and so are the cells, to keep it short."""
 
-    def __init__(self, name, mesh, places, counts, whole):
+    def __init__(self, name, mesh, places, counts, whole, rim):
         self.D, self.points, self.cells = mesh
+        self.rim = rim
         self.edges = edges_of(self.D, self.cells)
         self.closures, self.counted = closures_of(self.cells, counts), counts is not None
         have = set(map(frozenset, self.cells))
@@ -79,7 +96,7 @@ class Picture:
         left, top, wide, high = min(xs), max(ys), max(xs) - min(xs), max(ys) - min(ys)
         tall = 560 if self.D == 3 else 400
         scale = min((room / size for room, size in ((900, wide), (tall, high)) if size > 0), default=1)
-        self.width, self.height = max(700, round(wide * scale) + 60), round(high * scale) + 142 + 26 * (self.counted + (self.missing is not None))
+        self.width, self.height = max(700, round(wide * scale) + 60), round(high * scale) + 142 + 26 * (self.counted + (self.missing is not None) + (self.rim is not None))
         aside = (self.width - wide * scale) / 2
         self.at = [(aside + scale * (x - left), 70 + scale * (top - y)) for x, y in places]
         self.lengths = [math.dist(self.at[a], self.at[b]) for (a, b), _ in self.edges]
@@ -157,6 +174,10 @@ class Picture:
         lines = [self.line(edge) for edge, _ in edges_of(self.D, self.missing) if edge not in have]
         self.path("missing", lines, 'stroke="%s" stroke-width="0.5"' % MISSING)
 
+    def draw_rim(self):
+        """A broad line along the rim, below the edges."""
+        self.path("rim", [self.line(edge) for edge in self.rim], 'stroke="%s" stroke-width="7"' % RIM)
+
     def draw_alone(self):
         """The vertices that no cell uses, also none that is missing, as dots."""
         unused = sorted(set(range(self.points)) - {v for cell in self.cells + (self.missing or []) for v in cell})
@@ -195,6 +216,11 @@ class Picture:
         words = "missing: %s" % number_of(len(self.missing), "cell")
         self.legend_row(self.height - (76 if self.counted else 50), 22, [('stroke="%s" stroke-width="4"' % MISSING, "h22", words)])
 
+    def legend_of_rim(self):
+        """A row for the rim, above those of the closures and of what is missing."""
+        words = "rim: %s, %s" % (number_of(len(self.rim), "edge"), number_of(pieces_of(self.rim), "piece"))
+        self.legend_row(self.height - 50 - 26 * (self.counted + (self.missing is not None)), 22, [('stroke="%s" stroke-width="7"' % RIM, "h22", words)])
+
     def legend(self):
         marks = []
         for kind in KINDS:
@@ -204,14 +230,16 @@ class Picture:
         self.legend_row(self.height - 24, 22, marks)
 
 
-def drawing(name, mesh, places, counts, boxes=(), whole=None):
+def drawing(name, mesh, places, counts, boxes=(), whole=None, rim=None):
     """The picture's text; places are None where there are no coordinates, and counts where there are no phases; boxes are cells to be framed; whole is the
-    mesh that has the cells that are missing, or None."""
-    picture = Picture(name, mesh, places, counts, whole)
+    mesh that has the cells that are missing, or None; rim has the edges of the rim by their vertices, or is None."""
+    picture = Picture(name, mesh, places, counts, whole, rim)
     if picture.D == 2:
         picture.draw_cells()
     if whole is not None:
         picture.draw_missing()
+    if rim is not None:
+        picture.draw_rim()
     picture.draw_edges()
     picture.draw_alone()
     if picture.D == 2:
@@ -222,6 +250,8 @@ def drawing(name, mesh, places, counts, boxes=(), whole=None):
             picture.number_edges()
         picture.number_vertices()
     picture.draw_boxes(boxes)
+    if rim is not None:
+        picture.legend_of_rim()
     if picture.missing is not None:
         picture.legend_of_missing()
     if picture.counted:

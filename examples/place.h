@@ -1,4 +1,4 @@
-/* What a call gives with refusal 11, in words; the header of daybook says how the two numbers are read. */
+/* What a call gives with refusals 11 and 28, in words; the header of daybook says how the two numbers of each are read. */
 #ifndef PLACE_H
 #define PLACE_H
 
@@ -18,6 +18,18 @@ static inline void print_place(const uint32_t *book, uint32_t key, size_t positi
         printf("offset %lu", (unsigned long)position);
     else
         printf("index %lu", (unsigned long)(position - last - 1));
+}
+
+/* Prints why a book is no sheet, such as "D is not 2" or "vertex 4 lies in no cell". */
+static inline void print_why(FILE *out, uint32_t why, uint32_t which) {
+    if (why == DAYBOOK_WHY_DIMENSION)
+        fprintf(out, "D is not 2");
+    else if (why == DAYBOOK_WHY_VERTEX)
+        fprintf(out, "vertex %u lies in no cell", (unsigned)which);
+    else if (why == DAYBOOK_WHY_EDGE)
+        fprintf(out, "edge %u does not lie in one cell or two", (unsigned)which);
+    else
+        fprintf(out, "cell %u has not three edges that list it", (unsigned)which);
 }
 
 /* Prints a refusal, with 11 of its place, as a line. */

@@ -2,6 +2,9 @@
  *
  *     walk FILE
  *
+ * Where the mesh is a sheet whose rim is not too long it steps to the cell across each edge; elsewhere it looks through the cells at
+ * the edge. A sheet gives the same steps either way.
+ *
  * Built with place.h beside it and the two files that ./library leaves in a folder:
  *
  *     cc -std=c99 -I FOLDER walk.c FOLDER/libdaybook.a -o walk
@@ -50,8 +53,44 @@ static uint32_t prepare(size_t size) {
     return number;
 }
 
+/* For a sheet, the cell across each edge of each cell, three numbers a cell. */
+static uint32_t *across;
+
+/* Says whether the mesh is a sheet, or why it is none; where it is one and its rim is not too long, fills across and gives 1. */
+static int lay_out(uint32_t cells) {
+    static uint8_t rim[DAYBOOK_RIM_BYTES];
+    static uint32_t rim_vertices[DAYBOOK_RIM_VERTICES], rim_edges[DAYBOOK_RIM_EDGES];
+    size_t rim_length = 0, vertices = 0, edges = 0, position = 0;
+    uint32_t why = 0, which = 0, key = 0;
+    uint32_t number = daybook_sheet(book, words, across, 3 * (size_t)cells, rim, sizeof rim, rim_vertices, DAYBOOK_RIM_VERTICES, rim_edges, DAYBOOK_RIM_EDGES,
+                                    &rim_length, &vertices, &edges, &why, &which, &key, &position);
+    if (number && number != DAYBOOK_NOT_SHEET && number != DAYBOOK_LONG_RIM) {
+        print_refusal(number, book, key, position);
+        exit(1);
+    }
+    if (!number) {
+        printf("a sheet, edges at the rim: %u\n", (unsigned)edges);
+    } else if (number == DAYBOOK_LONG_RIM) {
+        printf("a sheet, edges at the rim: over %u\n", (unsigned)DAYBOOK_RIM_EDGES);
+    } else {
+        printf("no sheet: ");
+        print_why(stdout, why, which);
+        printf("\n");
+    }
+    return !number;
+}
+
+/* The cells to step to over edge k of a cell: by across the one there, if there is one, else all at that edge. */
+static struct row beyond(int by_across, uint32_t cell, uint32_t edge, size_t k) {
+    struct row one;
+    if (!by_across) return row(1, 2, edge);
+    one.at = across + 3 * (size_t)cell + k;
+    one.count = *one.at != DAYBOOK_NONE_ACROSS;
+    return one;
+}
+
 /* Walks the piece that the cell belongs to, and marks its cells. */
-static void walk(uint32_t first, unsigned char *seen, uint32_t *queue) {
+static void walk(int by_across, uint32_t first, unsigned char *seen, uint32_t *queue) {
     uint32_t next = 0, last = 0;
     printf("cell %u: a piece begins here\n", (unsigned)first);
     seen[first] = 1;
@@ -61,7 +100,7 @@ static void walk(uint32_t first, unsigned char *seen, uint32_t *queue) {
         struct row edges = row(2, 1, from);
         for (size_t k = 0; k < edges.count; k++) {
             uint32_t edge = edges.at[k];
-            struct row ends = row(1, 0, edge), beside = row(1, 2, edge);
+            struct row ends = row(1, 0, edge), beside = beyond(by_across, from, edge, k);
             for (size_t m = 0; m < beside.count; m++) {
                 uint32_t to = beside.at[m];
                 if (seen[to]) continue;
@@ -104,9 +143,11 @@ int main(int count, char **names) {
 
     unsigned char *seen = calloc(cells + 1, 1);
     uint32_t *queue = calloc(cells + 1, sizeof *queue), pieces = 0, border = 0, most = 0;
-    if (!seen || !queue) return 2;
+    across = calloc(3 * (size_t)cells + 1, sizeof *across);
+    if (!seen || !queue || !across) return 2;
+    int by_across = lay_out(cells);
     for (uint32_t cell = 0; cell < cells; cell++)
-        if (!seen[cell]) pieces++, walk(cell, seen, queue);
+        if (!seen[cell]) pieces++, walk(by_across, cell, seen, queue);
     for (uint32_t edge = 0; edge < book[2]; edge++)
         if (row(1, 2, edge).count == 1) border++;
     for (uint32_t cell = 0; cell < cells; cell++)
@@ -114,6 +155,7 @@ int main(int count, char **names) {
     printf("cells: %u, pieces: %u, edges: %u, at the border: %u, most cells around one: %u\n", (unsigned)cells, (unsigned)pieces, (unsigned)book[2],
            (unsigned)border, (unsigned)most);
     printf("words: %u, of which %u were given back\n", (unsigned)used, (unsigned)(used - book[4]));
+    free(across);
     free(queue);
     free(seen);
     free(book);

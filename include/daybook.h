@@ -1,6 +1,7 @@
 /*
- * daybook: a day's mesh of triangles or tetrahedra, who touches whom in it, how phase closes around its faces, and the
- * upright box around any part of it; and what can be saved of a day file that was cut short or damaged.
+ * daybook: a day's mesh of triangles or tetrahedra, who touches whom in it, how phase closes around its faces, the
+ * upright box around any part of it, and the rim of a sheet; and what can be saved of a day file that was cut short or
+ * damaged.
  *
  * A mesh has a dimension D (1, 2 or 3), N_0 vertices (at most 8,192) and N_D cells
  * (at most 4,096): intervals, triangles or tetrahedra, no two with the same vertices. An entity is a
@@ -48,9 +49,9 @@
  * daybook_row and daybook_find look at their row's own two offsets only, and say at the call which is meant.
  *
  * STACK, measured by painting it. daybook_make, daybook_ask and daybook_ask_list need up to 512 KiB
- * (417 KiB were measured), daybook_salvage up to 256 KiB (193), daybook_load and daybook_whole_box up to 128 KiB (113),
- * daybook_drop, daybook_write, daybook_euler, daybook_closures and daybook_box up to 64 KiB (57), the other calls less
- * than 16 KiB (1).
+ * (417 KiB were measured), daybook_salvage and daybook_sheet up to 256 KiB (193), daybook_load and daybook_whole_box up
+ * to 128 KiB (113), daybook_drop, daybook_write, daybook_euler, daybook_closures and daybook_box up to 64 KiB (57), the
+ * other calls less than 16 KiB (1).
  *
  * OWNERSHIP. Nothing is allocated, nothing is global, nothing is kept after a call returns: the
  * book, the file, the lists and the buffers stay yours. Calls on different books may run side by side in
@@ -92,13 +93,24 @@ enum {
     DAYBOOK_BUFFER_TOO_SHORT = 18, /* the byte buffer is shorter than the file to be written */
     DAYBOOK_NO_SUCH_INDEX = 19,    /* j is N_e or more */
     DAYBOOK_PAIRS_OFF = 20,        /* half a pair, more than DAYBOOK_MOST_PAIRS pairs, or answers that have not one place a pair */
-    DAYBOOK_LIST_LENGTH = 21,      /* a lent list has not one place a vertex, edge or face, coordinates are not axes times N_0, or the list of cells dropped is shorter than 2 N_D */
+    DAYBOOK_LIST_LENGTH = 21,      /* a lent list has not one place a vertex, edge or face, coordinates are not axes times N_0, the list of cells dropped is shorter than 2 N_D,
+                                      the cells across are not 3 N_D, or a rim's map is shorter than the rim needs */
     DAYBOOK_COUNT_OUTSIDE = 22,    /* a count is neither from -32,768 to 32,767 nor DAYBOOK_MASKED */
     DAYBOOK_CELL_TWICE = 23,       /* two cells of the file have the same vertices; the lowest that repeats an earlier one is given */
     DAYBOOK_CELLS_KEPT = 24,       /* D -> 0 is not dropped */
     DAYBOOK_NUMBER_DIFFERS = 25,   /* d -> 0 has to be made, another relation keeps N_d, and another number of entities is found */
     DAYBOOK_AXIS_COUNT = 26,       /* the number of axes is neither 2 nor 3 */
-    DAYBOOK_NOT_FINITE = 27        /* a coordinate is infinite or not a number */
+    DAYBOOK_NOT_FINITE = 27,       /* a coordinate is infinite or not a number */
+    DAYBOOK_NOT_SHEET = 28,        /* the book is no sheet; why is given, one of DAYBOOK_WHY_, and with all but the first which */
+    DAYBOOK_LONG_RIM = 29          /* the rim has over 4,096 edges */
+};
+
+/* Why a book is no sheet. */
+enum {
+    DAYBOOK_WHY_DIMENSION = 1, /* D is not 2 */
+    DAYBOOK_WHY_VERTEX = 2,    /* a vertex lies in no cell; the lowest such vertex is given */
+    DAYBOOK_WHY_EDGE = 3,      /* an edge lies in no cell, or in three or more; the lowest such edge is given */
+    DAYBOOK_WHY_CELL = 4       /* a cell has not three edges that list it; the lowest such cell is given */
 };
 
 /* The key that stands for the free words, those from the used length on, where a place in the book is given. */
@@ -111,6 +123,14 @@ enum {
 #define DAYBOOK_LONGEST_FILE 26628
 #define DAYBOOK_DROPPED_PLACES 8192
 
+/* What stands for the cell across an edge that lies in no other cell. */
+#define DAYBOOK_NONE_ACROSS 65535
+
+/* The bytes, and the places for its vertices and for its edges, that are enough for any rim that is accepted. */
+#define DAYBOOK_RIM_BYTES 13316
+#define DAYBOOK_RIM_VERTICES 8192
+#define DAYBOOK_RIM_EDGES 4096
+
 /* The count of a masked point, and the closure of a face that has one. */
 #define DAYBOOK_MASKED 65536
 #define DAYBOOK_CLOSURE_MASKED 2
@@ -119,8 +139,9 @@ enum {
  * N0 vertices and ND cells and for all its relations.
  *
  * SHEET: where no vertex lies in more than 12 intervals or triangles or 36 tetrahedra, and the cells
- * at a vertex hang together over shared edges (D = 2) or faces (D = 3). ANY: for every mesh; there
- * the cells at a vertex are not bounded, and the words grow with the square of the cells.
+ * at a vertex hang together over shared edges (D = 2) or faces (D = 3). What daybook_sheet accepts may have more cells at a
+ * vertex, as a fan has, or cells that meet in a vertex alone. ANY: for every mesh; there the cells at a vertex are not bounded,
+ * and the words grow with the square of the cells.
  *
  * Both count N_1 and N_2 as if no two cells shared an edge or a face. The arguments are evaluated
  * more than once; with constants the result is a constant, as an array's length needs. */
@@ -169,7 +190,8 @@ uint32_t daybook_ask_list(uint32_t *book, size_t book_len, const uint32_t *pairs
  * are set to 0, so that the next relation can take them. Relations that were made from it stay. daybook_row and
  * daybook_find still answer in each of them, though a row may lie at another place than before; daybook_write
  * and daybook_held_count answer as ever, and so does daybook_whole_box. daybook_make, daybook_euler,
- * daybook_closures and daybook_box refuse with 15 where they need what was dropped; daybook_ask makes it again.
+ * daybook_closures, daybook_box and daybook_sheet refuse with 15 where they need what was dropped; daybook_ask makes
+ * it again.
  *
  * The words follow from the mesh and from which relations are held: in a book that these calls alone have
  * written, dropping a relation and making it again, or asking for it while its sources are held, gives the same
@@ -242,6 +264,40 @@ uint32_t daybook_box(const uint32_t *book, size_t book_len, const double *coordi
  * Needs no relation but D -> 0, which is always held. Refusals: 10, 11 with *key and *position, 26, 21, 27. */
 uint32_t daybook_whole_box(const uint32_t *book, size_t book_len, const double *coordinates, size_t coordinates_len, uint32_t axes, double box[6],
                            uint32_t *some, uint32_t *key, size_t *position);
+
+/* The sheet: for triangles of which one or two meet at each edge, the cell across each edge of each cell, and the rim.
+ * A book is a sheet where D is 2, each vertex lies in some cell, and each edge lies in one or two.
+ *
+ * across gets three numbers for each cell, in the order of its row of 2 -> 1: across[3 c + k] is the cell at the other
+ * side of edge k of cell c, or DAYBOOK_NONE_ACROSS. In a book that these calls alone have written that goes back as well
+ * as forth: there the cell across has the same edge, and across it lies c.
+ *
+ * rim gets a day file with D = 1: each edge that lies in exactly one cell is a cell of it, in the order of the edges. Its
+ * vertices are those of these edges alone, numbered anew from 0 in ascending order: its vertex v is the mesh's vertex
+ * rim_vertices[v], and its cell i the mesh's edge rim_edges[i]. A closed surface has no rim, and a file of 4 bytes for it,
+ * without cells and vertices. In a book that these calls alone have written daybook_load accepts the file in a book that is
+ * large enough, and each vertex of the rim has an even number of its edges. In one that others have written none of this
+ * has to hold: its rim can have an edge twice.
+ *
+ * across has to be 3 N_D long. rim, rim_vertices and rim_edges have to be as long as the rim's file, its vertices and its
+ * edges, or longer; DAYBOOK_RIM_BYTES bytes and DAYBOOK_RIM_VERTICES and DAYBOOK_RIM_EDGES places are enough for any
+ * rim. Later bytes and places stay as they were. Where accepted, and only then, *rim_length is the length of the rim's
+ * file, *vertex_count the number of its vertices and *edge_count that of its edges.
+ *
+ * Where the book is no sheet, 28, and only then, *why is written, and with all but the first of these *which:
+ *
+ *   DAYBOOK_WHY_DIMENSION  1   D is not 2
+ *   DAYBOOK_WHY_VERTEX     2   *which is the lowest vertex that no row of 2 -> 0 has
+ *   DAYBOOK_WHY_EDGE       3   *which is the lowest edge whose row of 1 -> 2 has not one or two cells
+ *   DAYBOOK_WHY_CELL       4   *which is the lowest cell whose row of 2 -> 1 is not three edges that list it in 1 -> 2;
+ *                              never in a book that these calls alone have written
+ *
+ * Needs 1 -> 0, 2 -> 1 and 1 -> 2; in a book that has only been loaded, an ask for 1 -> 2 makes all three. Refusals: 10, 11
+ * with *key and *position, 28 with 1, 15, 28 with 2, 3 or 4, 29 where the rim has over 4,096 edges, 18 where rim is shorter
+ * than its file, 21 where across is not 3 N_D long or rim_vertices or rim_edges is too short. */
+uint32_t daybook_sheet(const uint32_t *book, size_t book_len, uint32_t *across, size_t across_len, uint8_t *rim, size_t rim_len,
+                       uint32_t *rim_vertices, size_t rim_vertices_len, uint32_t *rim_edges, size_t rim_edges_len,
+                       size_t *rim_length, size_t *vertex_count, size_t *edge_count, uint32_t *why, uint32_t *which, uint32_t *key, size_t *position);
 
 /* Salvages a day file, one that was cut short or damaged: writes to out the file of the cells that can be kept, which
  * daybook_load accepts in a book that is large enough. No book is lent. A file that daybook_load accepts comes back as

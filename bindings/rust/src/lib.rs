@@ -1,9 +1,9 @@
-//! Safe calls of daybook: a day's mesh of triangles or tetrahedra in a book of lent words, and who touches whom in it; and what
-//! can be saved of a day file that was cut short or damaged.
+//! Safe calls of daybook: a day's mesh of triangles or tetrahedra in a book of lent words, who touches whom in it, and the rim of
+//! a sheet; and what can be saved of a day file that was cut short or damaged.
 //!
 //! A book is a slice of `u32` that you lend to each call but `salvage`; `include/daybook.h` says what stands in it. Nothing is
 //! allocated and nothing is kept. A refusal alters nothing that was lent. `make`, `ask` and `ask_list` need up to
-//! 512 KiB of stack, `salvage` up to 256 KiB, `load` and `whole_box` up to 128 KiB, `drop_relation`, `write`, `euler`,
+//! 512 KiB of stack, `salvage` and `sheet` up to 256 KiB, `load` and `whole_box` up to 128 KiB, `drop_relation`, `write`, `euler`,
 //! `closures` and `box_of` up to 64 KiB.
 //!
 //! ```no_run
@@ -95,6 +95,25 @@ mod c {
             key: *mut u32,
             position: *mut usize,
         ) -> u32;
+        pub fn daybook_sheet(
+            book: *const u32,
+            book_len: usize,
+            across: *mut u32,
+            across_len: usize,
+            rim: *mut u8,
+            rim_len: usize,
+            rim_vertices: *mut u32,
+            rim_vertices_len: usize,
+            rim_edges: *mut u32,
+            rim_edges_len: usize,
+            rim_length: *mut usize,
+            vertex_count: *mut usize,
+            edge_count: *mut usize,
+            why: *mut u32,
+            which: *mut u32,
+            key: *mut u32,
+            position: *mut usize,
+        ) -> u32;
         pub fn daybook_salvage(
             file: *const u8,
             file_len: usize,
@@ -152,6 +171,53 @@ impl fmt::Display for Position {
     }
 }
 
+/// Why a book is no sheet, and the lowest that makes it none.
+#[derive(Clone, Copy, Debug, PartialEq, Eq, Hash)]
+pub enum NotSheet {
+    /// 1: D is not 2.
+    Dimension,
+    /// 2: this vertex lies in no cell.
+    Vertex(u32),
+    /// 3: this edge lies in no cell, or in three or more.
+    Edge(u32),
+    /// 4: this cell has not three edges that list it; in a book that these calls alone have written it cannot occur.
+    Cell(u32),
+}
+
+impl NotSheet {
+    /// What the library's two numbers mean.
+    fn of(why: u32, which: u32) -> NotSheet {
+        match why {
+            1 => NotSheet::Dimension,
+            2 => NotSheet::Vertex(which),
+            3 => NotSheet::Edge(which),
+            4 => NotSheet::Cell(which),
+            _ => unreachable!("the library gives 1 to 4"),
+        }
+    }
+
+    /// The paper's number of this reason, 1 to 4.
+    pub fn number(self) -> u32 {
+        match self {
+            NotSheet::Dimension => 1,
+            NotSheet::Vertex(_) => 2,
+            NotSheet::Edge(_) => 3,
+            NotSheet::Cell(_) => 4,
+        }
+    }
+}
+
+impl fmt::Display for NotSheet {
+    fn fmt(&self, out: &mut fmt::Formatter<'_>) -> fmt::Result {
+        match self {
+            NotSheet::Dimension => write!(out, "D is not 2"),
+            NotSheet::Vertex(vertex) => write!(out, "vertex {vertex} lies in no cell"),
+            NotSheet::Edge(edge) => write!(out, "edge {edge} does not lie in one cell or two"),
+            NotSheet::Cell(cell) => write!(out, "cell {cell} has not three edges that list it"),
+        }
+    }
+}
+
 /// Why a call was refused; `number` gives the paper's number.
 #[derive(Clone, Copy, Debug, PartialEq, Eq, Hash)]
 pub enum Refusal {
@@ -199,8 +265,8 @@ pub enum Refusal {
     NoSuchIndex,
     /// 20: more than `MOST_PAIRS` pairs, or answers that have not one place a pair.
     PairsOff,
-    /// 21: a lent list has not one place a vertex, edge or face, coordinates are not axes times N_0, or the list of cells dropped
-    /// is shorter than 2·N_D.
+    /// 21: a lent list has not one place a vertex, edge or face, coordinates are not axes times N_0, the list of cells dropped is
+    /// shorter than 2·N_D, the cells across are not 3·N_D, or a rim's map is shorter than the rim needs.
     ListLength,
     /// 22: a count is neither from −32,768 to 32,767 nor `MASKED`.
     CountOutside,
@@ -215,10 +281,14 @@ pub enum Refusal {
     AxisCount,
     /// 27: a coordinate is infinite or not a number.
     NotFinite,
+    /// 28: the book is no sheet, and why.
+    NotSheet(NotSheet),
+    /// 29: the rim has over 4,096 edges.
+    LongRim,
 }
 
 impl Refusal {
-    /// The paper's number of this refusal, 1 to 27.
+    /// The paper's number of this refusal, 1 to 29.
     pub fn number(self) -> u32 {
         match self {
             Refusal::FileTooShort => 1,
@@ -248,6 +318,8 @@ impl Refusal {
             Refusal::NumberDiffers => 25,
             Refusal::AxisCount => 26,
             Refusal::NotFinite => 27,
+            Refusal::NotSheet(_) => 28,
+            Refusal::LongRim => 29,
         }
     }
 }
@@ -258,6 +330,7 @@ impl fmt::Display for Refusal {
             Refusal::VertexOut(cell) | Refusal::VertexTwice(cell) | Refusal::CellTwice(cell) => write!(out, "refused {}, cell {}", self.number(), cell),
             Refusal::RowsBroken { key: FREE_WORDS, position } => write!(out, "refused 11, {position}"),
             Refusal::RowsBroken { key, position } => write!(out, "refused 11, relation {}→{}, {position}", key / 4, key % 4),
+            Refusal::NotSheet(why) => write!(out, "refused 28, {why}"),
             _ => write!(out, "refused {}", self.number()),
         }
     }
@@ -265,7 +338,8 @@ impl fmt::Display for Refusal {
 
 impl std::error::Error for Refusal {}
 
-/// What a call's number means: accepted with `value`, or a refusal, with 7, 8 and 23 of `cell`, with 11 of no known place.
+/// What a call's number means: accepted with `value`, or a refusal, with 7, 8 and 23 of `cell`, with 11 of no known place. 28 is
+/// given by `sheet` alone, which knows why.
 fn answer<T>(number: u32, cell: u32, value: T) -> Result<T, Refusal> {
     Err(match number {
         0 => return Ok(value),
@@ -296,7 +370,8 @@ fn answer<T>(number: u32, cell: u32, value: T) -> Result<T, Refusal> {
         25 => Refusal::NumberDiffers,
         26 => Refusal::AxisCount,
         27 => Refusal::NotFinite,
-        _ => unreachable!("the library gives 0 to 27"),
+        29 => Refusal::LongRim,
+        _ => unreachable!("the library gives 0 to 29"),
     })
 }
 
@@ -373,8 +448,8 @@ pub fn ask_list(book: &mut [u32], pairs: &[(u32, u32)], answers: &mut [Result<()
 }
 
 /// Drops d→e and gives back its room: later relations move down, and the words that are freed are set to 0. Relations that were
-/// made from it stay; `make`, `euler`, `closures` and `box_of` refuse with `NeedMissing` where they need it, and `ask` makes it
-/// again. In a book that these calls alone have written, a relation that is dropped and made again leaves the same words as before.
+/// made from it stay; `make`, `euler`, `closures`, `box_of` and `sheet` refuse with `NeedMissing` where they need it, and `ask`
+/// makes it again. In a book that these calls alone have written, a relation that is dropped and made again leaves the same words as before.
 ///
 /// ```no_run
 /// # let mut book = vec![0; 500];
@@ -582,6 +657,102 @@ pub fn whole_box(book: &[u32], coordinates: &[f64], axes: u32) -> Result<Option<
         )
     };
     place.answer(book, number, (some == 1).then(|| Bounds::of(ends)))
+}
+
+/// What stands for the cell across an edge that lies in no other cell.
+pub const NONE_ACROSS: u32 = 65_535;
+
+/// The bytes that are enough for any rim.
+pub const RIM_BYTES: usize = 13_316;
+
+/// The places that are enough for the vertices of any rim.
+pub const RIM_VERTICES: usize = 8_192;
+
+/// The places that are enough for the edges of any rim.
+pub const RIM_EDGES: usize = 4_096;
+
+/// The cells across the three edges of a cell, in the order of its row of 2→1, from the list that `sheet` has written. It panics
+/// where the list has no such cell.
+pub fn across_of(across: &[u32], cell: u32) -> [Option<u32>; 3] {
+    [0, 1, 2].map(|k| Some(across[3 * cell as usize + k]).filter(|&other| other != NONE_ACROSS))
+}
+
+/// What `sheet` says of a rim.
+#[derive(Clone, Copy, Debug, PartialEq, Eq, Hash)]
+pub struct Rim {
+    /// The length of its file.
+    pub length: usize,
+    /// The number of its vertices.
+    pub vertices: usize,
+    /// The number of its edges.
+    pub edges: usize,
+}
+
+impl Rim {
+    /// The file that the call has written: the first of its bytes. It panics where there are fewer.
+    pub fn file<'a>(&self, rim: &'a [u8]) -> &'a [u8] {
+        &rim[..self.length]
+    }
+
+    /// The mesh's vertex for each vertex of the rim, from the list that the call has written. It panics where that is shorter.
+    pub fn old_vertices<'a>(&self, rim_vertices: &'a [u32]) -> &'a [u32] {
+        &rim_vertices[..self.vertices]
+    }
+
+    /// The mesh's edge for each edge of the rim, from the list that the call has written. It panics where that is shorter.
+    pub fn old_edges<'a>(&self, rim_edges: &'a [u32]) -> &'a [u32] {
+        &rim_edges[..self.edges]
+    }
+}
+
+/// The sheet, for triangles of which one or two meet at each edge: writes to `across` the cell across each edge of each cell, which
+/// `across_of` reads, and to `rim` the edges that lie in exactly one cell, as a day file with D = 1. Its vertices are those of
+/// these edges, numbered anew by ascending number; `rim_vertices` gets the old number of each, and `rim_edges` that of each edge.
+/// 1→0, 2→1 and 1→2 have to be held. `across` has to be 3·N_D long, the others as long as the rim needs or longer; later bytes and
+/// places stay as they were. `RIM_BYTES`, `RIM_VERTICES` and `RIM_EDGES` are enough for any rim. Where the call is refused,
+/// nothing is altered.
+///
+/// In a book that these calls alone have written the cell across goes back by the same edge, `load` accepts the rim in a book that
+/// is large enough, and each vertex of the rim has an even number of its edges.
+///
+/// ```no_run
+/// # let mut book = vec![0; 500];
+/// daybook::ask(&mut book, 1, 2)?; // makes 1→0 and 2→1 too, in a book that has only been loaded
+/// let (mut across, mut rim) = ([0; 6], [0; daybook::RIM_BYTES]);
+/// let (mut vertices, mut edges) = ([0; daybook::RIM_VERTICES], [0; daybook::RIM_EDGES]);
+/// let said = daybook::sheet(&book, &mut across, &mut rim, &mut vertices, &mut edges)?;
+/// let beside = daybook::across_of(&across, 0);
+/// let file = said.file(&rim);
+/// # Ok::<(), daybook::Refusal>(())
+/// ```
+pub fn sheet(book: &[u32], across: &mut [u32], rim: &mut [u8], rim_vertices: &mut [u32], rim_edges: &mut [u32]) -> Result<Rim, Refusal> {
+    let (mut length, mut vertices, mut edges, mut why, mut which, mut place) = (0, 0, 0, 0, 0, Place::default());
+    // SAFETY: as in `load`.
+    let number = unsafe {
+        c::daybook_sheet(
+            book.as_ptr(),
+            book.len(),
+            across.as_mut_ptr(),
+            across.len(),
+            rim.as_mut_ptr(),
+            rim.len(),
+            rim_vertices.as_mut_ptr(),
+            rim_vertices.len(),
+            rim_edges.as_mut_ptr(),
+            rim_edges.len(),
+            &mut length,
+            &mut vertices,
+            &mut edges,
+            &mut why,
+            &mut which,
+            &mut place.key,
+            &mut place.position,
+        )
+    };
+    match number {
+        28 => Err(Refusal::NotSheet(NotSheet::of(why, which))),
+        _ => place.answer(book, number, Rim { length, vertices, edges }),
+    }
 }
 
 /// The bytes of the longest day file.

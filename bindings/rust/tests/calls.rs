@@ -1,6 +1,7 @@
 //! The paper's examples and each refusal, through the safe calls.
 use daybook::{
-    Bounds, Dropped, Found, Position, Reading, Refusal, Salvaged, Step, Why, CLOSURE_MASKED, FREE_WORDS, LONGEST_FILE, MASKED, DROPPED_PLACES, MOST_PAIRS,
+    Bounds, Dropped, Found, NotSheet, Position, Reading, Refusal, Rim, Salvaged, Step, Why, CLOSURE_MASKED, FREE_WORDS, LONGEST_FILE, MASKED,
+    DROPPED_PLACES, MOST_PAIRS, NONE_ACROSS, RIM_BYTES, RIM_EDGES, RIM_VERTICES,
 };
 
 /// The two triangles {0, 1, 3} and {1, 2, 3}.
@@ -436,6 +437,134 @@ fn any_file_has_room() {
     assert_eq!(out, file[..LONGEST_FILE]);
 }
 
+/// The day file of triangles on so many vertices.
+fn triangles(points: u32, cells: &[[u32; 3]]) -> Vec<u8> {
+    let mut file = (2 << 30 | points << 16 | (cells.len() as u32) << 3).to_be_bytes().to_vec();
+    let bits: Vec<u32> = cells.iter().flatten().flat_map(|v| (0..13).rev().map(move |k| v >> k & 1)).collect();
+    file.extend(bits.chunks(8).map(|byte| byte.iter().enumerate().map(|(k, bit)| (bit << (7 - k)) as u8).sum::<u8>()));
+    file
+}
+
+/// The book of a file with what the sheet needs: an ask for 1→2 makes 2→1 and 1→0 too.
+fn laid_out(file: &[u8]) -> Vec<u32> {
+    let mut book = vec![7; 150_000];
+    daybook::load(file, &mut book).unwrap();
+    daybook::ask(&mut book, 1, 2).unwrap();
+    book
+}
+
+/// What a sheet gives: the cells across, what is said of the rim, its file, and the two maps.
+type Given = (Vec<u32>, Rim, Vec<u8>, Vec<u32>, Vec<u32>);
+
+/// The sheet with lists of these lengths; where it is refused they stay as they were, and where it is accepted what lies behind the rim does.
+fn sheet(book: &[u32], sizes: [usize; 4]) -> Result<Given, Refusal> {
+    let (mut across, mut rim, mut vertices, mut edges) = (vec![7; sizes[0]], vec![0xAA; sizes[1]], vec![7; sizes[2]], vec![7; sizes[3]]);
+    let said = match daybook::sheet(book, &mut across, &mut rim, &mut vertices, &mut edges) {
+        Ok(said) => said,
+        Err(refusal) => {
+            assert_eq!((across, rim, vertices, edges), (vec![7; sizes[0]], vec![0xAA; sizes[1]], vec![7; sizes[2]], vec![7; sizes[3]]));
+            return Err(refusal);
+        }
+    };
+    assert_eq!(rim[said.length..], vec![0xAA; sizes[1] - said.length]);
+    assert_eq!(vertices[said.vertices..], vec![7; sizes[2] - said.vertices]);
+    assert_eq!(edges[said.edges..], vec![7; sizes[3] - said.edges]);
+    let (file, vertices, edges) = (said.file(&rim).to_vec(), said.old_vertices(&vertices).to_vec(), said.old_edges(&edges).to_vec());
+    Ok((across, said, file, vertices, edges))
+}
+
+/// The rim of T: its edges are 0 1, 0 3, 1 2 and 2 3, and all its vertices are at the rim.
+const RIM_OF_T: [u8; 17] = [0x40, 0x04, 0x00, 0x20, 0x00, 0x00, 0x00, 0x40, 0x00, 0x00, 0x30, 0x00, 0x80, 0x08, 0x00, 0x40, 0x03];
+
+#[test]
+fn t_is_a_sheet() {
+    let book = laid_out(&T);
+    const N: u32 = NONE_ACROSS;
+    let wanted = (vec![N, N, 1, 0, N, N], Rim { length: 17, vertices: 4, edges: 4 }, RIM_OF_T.to_vec(), vec![0, 1, 2, 3], vec![0, 1, 3, 4]);
+    for sizes in [[6, 17, 4, 4], [6, 20, 7, 9], [6, RIM_BYTES, RIM_VERTICES, RIM_EDGES]] {
+        assert_eq!(sheet(&book, sizes), Ok(wanted.clone()));
+    }
+    assert_eq!([0, 1].map(|cell| daybook::across_of(&wanted.0, cell)), [[None, None, Some(1)], [Some(0), None, None]]);
+    let mut rim = [7; 18];
+    assert_eq!(daybook::load(&RIM_OF_T, &mut rim), Ok(()));
+    assert_eq!(rim, [0x40040020, 16, 0, 0, 18, 0, 2, 4, 6, 8, 0, 1, 0, 3, 1, 2, 2, 3]);
+}
+
+#[test]
+fn inner_vertices_are_not_at_the_rim() {
+    let book = laid_out(&triangles(4, &[[2, 1, 0], [0, 2, 3], [3, 0, 1]])); // around vertex 0
+    const N: u32 = NONE_ACROSS;
+    let rim = vec![0x40, 0x03, 0x00, 0x18, 0x00, 0x00, 0x00, 0x40, 0x02, 0x00, 0x20, 0x00, 0x00, 0x08]; // 0 1, 1 2, 0 2, which are 1 2, 2 3, 1 3
+    let wanted = (vec![2, 1, N, 0, 2, N, 0, 1, N], Rim { length: 14, vertices: 3, edges: 3 }, rim, vec![1, 2, 3], vec![2, 4, 5]);
+    assert_eq!(sheet(&book, [9, 14, 3, 3]), Ok(wanted));
+}
+
+#[test]
+fn a_closed_surface_has_no_rim() {
+    let none = Rim { length: 4, vertices: 0, edges: 0 };
+    let book = laid_out(&triangles(4, &[[0, 1, 2], [0, 1, 3], [0, 2, 3], [1, 2, 3]]));
+    let across = vec![1, 2, 3, 0, 2, 3, 0, 1, 3, 0, 1, 2];
+    for sizes in [[12, 4, 0, 0], [12, 9, 3, 3]] {
+        assert_eq!(sheet(&book, sizes), Ok((across.clone(), none, vec![0x40, 0, 0, 0], vec![], vec![])));
+    }
+    assert_eq!(sheet(&laid_out(&triangles(0, &[])), [0, 4, 0, 0]), Ok((vec![], none, vec![0x40, 0, 0, 0], vec![], vec![])));
+}
+
+#[test]
+fn no_sheets_say_why() {
+    let why = |book: &[u32]| match [[6, 17, 4, 4], [0, 0, 0, 0]].map(|sizes| sheet(book, sizes)) {
+        [Err(Refusal::NotSheet(one)), Err(Refusal::NotSheet(other))] if one == other => one,
+        given => panic!("{given:?}"),
+    };
+    let mut book = [7; 40];
+    daybook::load(&[0x40, 0x02, 0x00, 0x08, 0x00, 0x00, 0x00, 0x40], &mut book).unwrap(); // an interval
+    assert_eq!(why(&book), NotSheet::Dimension);
+    assert_eq!(why(&laid_out(&triangles(6, &[[0, 1, 3], [1, 3, 5]]))), NotSheet::Vertex(2));
+    assert_eq!(why(&laid_out(&triangles(5, &[[0, 2, 3], [0, 1, 4], [0, 1, 2], [0, 1, 3]]))), NotSheet::Edge(3));
+    let mut lying = all_nine();
+    assert_eq!(lying[105..114], [0, 3, 6, 0, 1, 2, 2, 3, 4]); // 2→1
+    lying[111] = 1; // for edge 2 of cell 1; edge 1 lists cell 0 alone
+    assert_eq!(why(&lying), NotSheet::Cell(1));
+    let texts = ["D is not 2", "vertex 2 lies in no cell", "edge 3 does not lie in one cell or two", "cell 1 has not three edges that list it"];
+    let all = [NotSheet::Dimension, NotSheet::Vertex(2), NotSheet::Edge(3), NotSheet::Cell(1)];
+    assert_eq!(all.map(|why| Refusal::NotSheet(why).to_string()), texts.map(|text| format!("refused 28, {text}")));
+    assert_eq!(all.map(NotSheet::number), [1, 2, 3, 4]);
+}
+
+#[test]
+fn sheets_are_refused() {
+    let mut book = laid_out(&T);
+    assert_eq!(sheet(&book, [5, 16, 3, 3]), Err(Refusal::BufferTooShort));
+    for sizes in [[5, 17, 4, 4], [7, 17, 4, 4], [6, 17, 3, 4], [6, 17, 4, 3], [0, 17, 0, 0]] {
+        assert_eq!(sheet(&book, sizes), Err(Refusal::ListLength));
+    }
+    for (d, e) in [(1, 0), (2, 1), (1, 2)] {
+        daybook::drop_relation(&mut book, d, e).unwrap();
+        assert_eq!(sheet(&book, [6, 17, 4, 4]), Err(Refusal::NeedMissing));
+        daybook::ask(&mut book, d, e).unwrap();
+    }
+    assert!(sheet(&book, [6, 17, 4, 4]).is_ok());
+    assert_eq!(sheet(&[], [0; 4]), Err(Refusal::FrameBroken));
+}
+
+#[test]
+fn a_rim_has_at_most_4096_edges() {
+    let ribbon = |count: u32| triangles(count + 2, &(0..count).map(|c| [c, c + 1, c + 2]).collect::<Vec<_>>());
+    let (across, said, ..) = sheet(&laid_out(&ribbon(4094)), [3 * 4094, RIM_BYTES, 4096, RIM_EDGES]).unwrap();
+    assert_eq!(said, Rim { length: RIM_BYTES, vertices: 4096, edges: RIM_EDGES });
+    assert_eq!(across.iter().filter(|&&other| other == NONE_ACROSS).count(), 4096);
+    // 4,096 triangles, no two of which have an edge in common
+    let apart: Vec<_> = (0..4096).map(|c| [2 * c, 2 * c + 1, (2 * c + 2) % 8192]).collect();
+    for file in [ribbon(4095), triangles(8192, &apart)] {
+        let book = laid_out(&file);
+        let cells = (book[0] >> 3 & 0x1FFF) as usize;
+        for sizes in [[3 * cells, RIM_BYTES, RIM_VERTICES, RIM_EDGES], [3 * cells, 40_000, 20_000, 20_000], [0; 4]] {
+            assert_eq!(sheet(&book, sizes), Err(Refusal::LongRim));
+        }
+    }
+    assert_eq!(Refusal::LongRim.to_string(), "refused 29");
+}
+
 #[test]
 fn books_and_numbers_are_refused() {
     let mut book = loaded(200);
@@ -487,6 +616,7 @@ fn a_refusal_says_where_the_book_is_broken() {
         assert_eq!(daybook::closures(&book, &[], &mut [], &mut [], &mut []), Err(refusal));
         assert_eq!(daybook::box_of(&book, &[], 9, 9, 9), Err(refusal));
         assert_eq!(daybook::whole_box(&book, &[], 9), Err(refusal));
+        assert_eq!(sheet(&book, [1; 4]), Err(refusal));
         assert_eq!(refusal.to_string(), text);
     }
 }
@@ -510,9 +640,9 @@ fn numbers_are_the_papers() {
         Refusal::RowsBroken { key: 0, position: Position::Offset(0) }, Refusal::DimensionOver, Refusal::NoRoom, Refusal::AlreadyHeld,
         Refusal::NeedMissing, Refusal::NotHeld, Refusal::NoSuchEntity, Refusal::BufferTooShort,
         Refusal::NoSuchIndex, Refusal::PairsOff, Refusal::ListLength, Refusal::CountOutside, Refusal::CellTwice(0),
-        Refusal::CellsKept, Refusal::NumberDiffers, Refusal::AxisCount, Refusal::NotFinite,
+        Refusal::CellsKept, Refusal::NumberDiffers, Refusal::AxisCount, Refusal::NotFinite, Refusal::NotSheet(NotSheet::Dimension), Refusal::LongRim,
     ];
-    assert!(all.iter().map(|r| r.number()).eq(1..=27));
+    assert!(all.iter().map(|r| r.number()).eq(1..=29));
     assert_eq!(Refusal::RowsBrokenSomewhere.number(), 11);
     assert_eq!(Refusal::RowsBrokenSomewhere.to_string(), "refused 11");
 }

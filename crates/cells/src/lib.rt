@@ -1,7 +1,10 @@
-// The cells of a right book: their vertices, and the vertices that lie in at least one of them, counted or listed.
+// The cells of a right book: their vertices, the vertices that lie in at least one of them, counted or listed, and the lowest that lies in none.
 mod listed;
+mod unused;
 
+pub use listed::list_named;
 pub use listed::list_used;
+pub use unused::first_unused;
 ghost use mathlib.Core.Path.{_≡_};
 ghost use mathlib.Core.Bool.{true};
 ghost use Prim.Native.Nat.{_≤_};

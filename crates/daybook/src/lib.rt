@@ -4,7 +4,8 @@
 // nothing and allocates nothing. `load` fills it from a day file; a loaded mesh takes
 // 6 + N_D + N_D (D + 1) words, and each relation more takes N_d + 1 words and one for each index. A
 // call that does not fit is refused and alters nothing. `salvage` goes from a day file to a day
-// file: it keeps every whole cell that `load` would not fault, and lists the others.
+// file: it keeps every whole cell that `load` would not fault, and lists the others. `sheet` gives the
+// cell across each edge of each cell of a sheet, and its rim as a day file.
 //
 // Word 0 is the file's first 32 bits, word 1 the sum of 2^(4d+e) over the relations d→e held, word
 // 1 + d for d = 1, 2 is N_d while d < D and some relation held names d, else 0, word 4 is the used
@@ -35,15 +36,16 @@
 // | 13  | the used length afterwards would pass the book's length     | load, make, ask         |
 // | 14  | the relation is held already                                | make                    |
 // | 15  | something that is needed is not held                        | make, euler, close,     |
-// |     |                                                             | box_of                  |
+// |     |                                                             | box_of, sheet           |
 // | 16  | the relation is not held                                    | drop, row, find         |
 // | 17  | i is N_d or more                                            | row, find, box_of       |
-// | 18  | the byte buffer is shorter than the file to be written      | write, salvage          |
+// | 18  | the byte buffer is shorter than the file to be written      | write, salvage, sheet   |
 // | 19  | j is N_e or more                                            | find                    |
 // | 20  | half a pair, over 16 pairs, or not one place a pair         | ask_list                |
 // | 21  | a lent list is not one place a vertex, edge or face; for    | close, box_of,          |
-// |     | the boxes, not axes times N_0 long; for salvage, it is      | whole_box, salvage      |
-// |     | shorter than 2 N_D                                          |                         |
+// |     | the boxes, not axes times N_0 long; for salvage, it is      | whole_box, salvage,     |
+// |     | shorter than 2 N_D; for sheet, the list of cells across is  | sheet                   |
+// |     | not 3 N_D long, or a map is shorter than the rim needs      |                         |
 // | 22  | a count is not from −32,768 to 32,767, nor 65,536           | close                   |
 // | 23  | a cell has the vertices of an earlier one; with the lowest  | load, before 9          |
 // |     | such cell                                                   |                         |
@@ -53,6 +55,12 @@
 // | 26  | the axis count is not 2 or 3                                | box_of, whole_box,      |
 // |     |                                                             | before 21               |
 // | 27  | a coordinate is infinite or not a number                    | box_of, whole_box       |
+// | 28  | the book is not a sheet; with why: 1 if D is not 2, before  | sheet                   |
+// |     | 15; 2 and the lowest vertex in no cell, 3 and the lowest    |                         |
+// |     | edge whose row of 1→2 has not one or two cells, 4 and the   |                         |
+// |     | lowest cell whose row of 2→1 is not three edges that list   |                         |
+// |     | it in 1→2                                                   |                         |
+// | 29  | the rim has over 4,096 edges                                | sheet, before 18        |
 //
 // ask_list gives no other number as a call: what each of its asks is refused for stands among its answers.
 // salvage gives none of 6, 7, 8 and 23 as a call: they stand in its list, beside the number of each cell that it drops: 6 where the cell is not whole in the file, 23 where it has the vertices of one kept before it, and of the four the first that applies.
@@ -97,3 +105,7 @@ pub use rows::Broken;
 pub use salvaging::Salvaged;
 pub use salvaging::Saved;
 pub use salvaging::salvage;
+pub use sheets::NotSheet;
+pub use sheets::Rim;
+pub use sheets::Sheeted;
+pub use sheets::sheet;

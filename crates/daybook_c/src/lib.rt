@@ -1,10 +1,12 @@
-// The C interface: each call of `daybook` under the name that include/daybook.h declares. The result is the paper's number, 0 where accepted; what an out reference refers to is written only where the paper gives something, and is otherwise left alone: with 11 the key and the position where the book is broken.
+// The C interface: each call of `daybook` under the name that include/daybook.h declares. The result is the paper's number, 0 where accepted; what an out reference refers to is written only where the paper gives something, and is otherwise left alone: with 11 the key and the position where the book is broken, with 28 why it is not a sheet.
 mod boxed;
 mod salvaged;
+mod sheeted;
 
 pub use boxed::daybook_box;
 pub use boxed::daybook_whole_box;
 pub use salvaged::daybook_salvage;
+pub use sheeted::daybook_sheet;
 ghost use mathlib.Core.Path.{_≡_};
 ghost use mathlib.Core.Bool.{cond, _||_};
 ghost use Prim.Native.Nat.{_+_, _<_};

@@ -115,4 +115,4 @@ pub nothing-else : NothingElse
 nothing-else m ws r =
     let k = reached-kept m ws r in
     let g = kept-right m ws k in
-    (g .frame, g .rows, λ d e i j bs counts closures steps bytes coordinates axes. faultless ws (g .frame) (g .rows) (kept-alike m ws k) d e i j bs counts closures steps bytes coordinates axes)
+    (g .frame, g .rows, λ d e i j bs counts closures steps bytes coordinates axes acrosses rim vertices edges. faultless ws (g .frame) (g .rows) (kept-alike m ws k) d e i j bs counts closures steps bytes coordinates axes acrosses rim vertices edges)

@@ -1,6 +1,8 @@
 pub mod Kept
 pub mod DemandThree
 pub mod Euler
+pub mod SheetTrue
+pub mod SheetPlanned
 pub mod Planned
 pub mod RoundTrip
 pub mod Lying
@@ -14,3 +16,4 @@ pub mod BoxOver
 pub mod Boxes
 pub mod BoxesNest
 pub mod Salvages
+pub mod Sheets

@@ -38,6 +38,7 @@ use Rattle.promises.specs.Demand.{Holds, Planned}
 use Rattle.promises.proofs.Kept.{Kept, kept-held, kept-dim, kept-mask, kept-right, kept-alike, reached-kept}
 use Rattle.promises.proofs.DemandThree.{first-count, second-count}
 use Rattle.promises.proofs.Euler.{vertices-true}
+use Rattle.promises.proofs.SheetPlanned.{sheet-planned}
 
 -- ---- a kept book
 module _ (m : Mesh) (ws : List ℕ) (k : Kept m ws) where
@@ -233,7 +234,7 @@ module _ (m : Mesh) (ws : List ℕ) (k : Kept m ws) where
   same-mask mask h = masks-equal 16 mask (k .mask) (h .small) (k .proper .small) (λ j l. h .names j l ∙ kept-held m ws k j)
 
 pub planned : Planned
-planned m ws r mask h d e i j bs counts closures steps bytes coordinates axes =
+planned m ws r mask h d e i j bs counts closures steps bytes coordinates axes acrosses rim vertices edges =
     let k = reached-kept m ws r in
     rw (same-mask m ws k mask h)
-    (make-planned m ws k d e, ask-planned m ws k d e, drop-planned m ws k d e, row-planned m ws k d e i, find-planned m ws k d e i j, write-planned m ws k bs, euler-planned m ws k, held-planned m ws k, close-planned m ws k counts closures steps bytes, box-planned m ws k coordinates axes d i, whole-planned m ws k coordinates axes)
+    (make-planned m ws k d e, ask-planned m ws k d e, drop-planned m ws k d e, row-planned m ws k d e i, find-planned m ws k d e i j, write-planned m ws k bs, euler-planned m ws k, held-planned m ws k, close-planned m ws k counts closures steps bytes, box-planned m ws k coordinates axes d i, whole-planned m ws k coordinates axes, sheet-planned m ws r acrosses rim vertices edges)

@@ -13,9 +13,11 @@ use Rattle.rules.specs.Book.{key, named, held, count, rowOf, rowsOf, frameRight
 use Rattle.rules.specs.Calls.{loadNumber, loadWords, makeNumber, makeWords, askNumber, askWords, answersOf, wordsOf, listNumber, listAnswers, listWords, rowNumber, rowPart, findNumber, findFound, written, writeNumber, eulerNumber, alternating, eulerOf, heldNumber, dropNumber, dropWords}
 use Rattle.rules.specs.Closures.{closeNumber}
 use Rattle.rules.specs.Boxes.{boxNumber, wholeNumber}
+use Rattle.rules.specs.Sheet.{sheetAnswer, sheetNumber}
 use Rattle.rules.specs.Truth.{Mesh, meshOf, number, incident, trueRows, trueEuler, trueBook}
 use Rattle.rules.specs.Sequence.{State, askList, after, afterAll, asksOf, Reached}
 use Rattle.promises.specs.Plan.{wordsFor, makePlan, askPlan, answersPlan, rowPlan, findPlan, writePlan, eulerPlan, closePlan, boxPlan, wholePlan, dropPlan}
+use Rattle.promises.specs.SheetPlan.{sheetPlan}
 
 -- ==== demand 3, part by part
 -- every relation held is the true incidence of the last accepted mesh
@@ -74,8 +76,8 @@ Alike = (m : Mesh) (ws vs : List ℕ) → Reached m ws → Reached m vs → leng
 
 -- the frame rule and the row rule hold, and no call gives 10, 11 or 25
 abbrev pub NothingElse : Type 0
-NothingElse = (m : Mesh) (ws : List ℕ) → Reached m ws → (frameRight ws ≡ true) × (rowsRight ws ≡ true) × ((d e i j : ℕ) (bs : List ℕ) (counts : List ℤ) (closures steps bytes : ℕ) (coordinates : List Float) (axes : ℕ)
-    → allOf (λ n. not (eqb n 10 || eqb n 11 || eqb n 25)) (makeNumber ws d e ∷ askNumber ws d e ∷ dropNumber ws d e ∷ rowNumber ws d e i ∷ findNumber ws d e i j ∷ writeNumber ws bs ∷ eulerNumber ws ∷ heldNumber ws ∷ closeNumber ws counts closures steps bytes ∷ boxNumber ws coordinates axes d i ∷ wholeNumber ws coordinates axes ∷ []) ≡ true)
+NothingElse = (m : Mesh) (ws : List ℕ) → Reached m ws → (frameRight ws ≡ true) × (rowsRight ws ≡ true) × ((d e i j : ℕ) (bs : List ℕ) (counts : List ℤ) (closures steps bytes : ℕ) (coordinates : List Float) (axes acrosses rim vertices edges : ℕ)
+    → allOf (λ n. not (eqb n 10 || eqb n 11 || eqb n 25)) (makeNumber ws d e ∷ askNumber ws d e ∷ dropNumber ws d e ∷ rowNumber ws d e i ∷ findNumber ws d e i j ∷ writeNumber ws bs ∷ eulerNumber ws ∷ heldNumber ws ∷ closeNumber ws counts closures steps bytes ∷ boxNumber ws coordinates axes d i ∷ wholeNumber ws coordinates axes ∷ sheetNumber ws acrosses rim vertices edges ∷ []) ≡ true)
 
 -- nor does any answer of a list of asks
 abbrev pub ListedFine : Type 0
@@ -86,9 +88,9 @@ pub record Holds (ws : List ℕ) (mask : ℕ) : Type 0 where
   pub small : mask < 2 ^ 16
   pub names : (k : ℕ) → k < 16 → named mask k ≡ held ws k
 
--- each call's number is the one planned from the book's length, the mesh and the set of relations held
+-- each call's number, and with a sheet's refusal what it carries, is the one planned from the book's length, the mesh and the set of relations held
 abbrev pub Planned : Type 0
-Planned = (m : Mesh) (ws : List ℕ) → Reached m ws → (mask : ℕ) → Holds ws mask → (d e i j : ℕ) (bs : List ℕ) (counts : List ℤ) (closures steps bytes : ℕ) (coordinates : List Float) (axes : ℕ)
+Planned = (m : Mesh) (ws : List ℕ) → Reached m ws → (mask : ℕ) → Holds ws mask → (d e i j : ℕ) (bs : List ℕ) (counts : List ℤ) (closures steps bytes : ℕ) (coordinates : List Float) (axes acrosses rim vertices edges : ℕ)
     → (makeNumber ws d e ≡ makePlan (length ws) m mask d e)
     × (askNumber ws d e ≡ askPlan (length ws) m mask d e)
     × (dropNumber ws d e ≡ dropPlan m mask d e)
@@ -100,6 +102,7 @@ Planned = (m : Mesh) (ws : List ℕ) → Reached m ws → (mask : ℕ) → Holds
     × (closeNumber ws counts closures steps bytes ≡ closePlan m mask counts closures steps bytes)
     × (boxNumber ws coordinates axes d i ≡ boxPlan m mask coordinates axes d i)
     × (wholeNumber ws coordinates axes ≡ wholePlan m coordinates axes)
+    × (sheetAnswer ws acrosses rim vertices edges ≡ sheetPlan m mask acrosses rim vertices edges)
 
 -- and so is each answer of a list of asks
 abbrev pub ListPlanned : Type 0

@@ -14,7 +14,7 @@ use borrow.Author.Tests.{not-true, not-false, ltb-true, ltb-false, leb-false, eq
 use Rattle.rules.specs.Lists.{upTo, anyOf, allOf, repeats, sorted, filled}
 use Rattle.rules.specs.File.{fileDim, fileVertices, fileCells, fileSpare, lengthOf, cellsInFile, outOf, twice, padSet}
 use Rattle.rules.specs.Book.{dim, count, key, held, needs, rowOf, frameRight, rowsRight}
-use Rattle.rules.specs.Calls.{Rule, firstBroken, loaded, fileRules, loadRules, loadNumber, loadWords, added, makeRules, makeNumber, makeWords, asked, askRules, askNumber, askWords, wordsOf, pairsOff, listRules, listNumber, listWords, rowRules, rowNumber, rowPart, foundIn, readIn, findRules, findNumber, findFound, findRead, differs, hasToMake, dropped, dropRules, dropNumber, dropWords, eulerRules, eulerNumber}
+use Rattle.rules.specs.Calls.{Rule, rule, firstBroken, loaded, fileRules, loadRules, loadNumber, loadWords, added, makeRules, makeNumber, makeWords, asked, askRules, askNumber, askWords, wordsOf, pairsOff, listRules, listNumber, listWords, rowRules, rowNumber, rowPart, foundIn, readIn, findRules, findNumber, findFound, findRead, differs, hasToMake, dropped, dropRules, dropNumber, dropWords, eulerRules, eulerNumber}
 use Rattle.rules.specs.Phases.{counted}
 use Rattle.rules.specs.Closures.{lengthsRight, closeRules, closeNumber}
 use Rattle.rules.specs.Boxes.{coordinateRules, boxRules, boxNumber, wholeRules, wholeNumber}
@@ -35,6 +35,17 @@ unbroken (r ∷ rs) p h = go (r .broken) refl h (unbroken rs (right (ltb 0 (r .a
         → (firstBroken rs 0 ≡ 0 → allOf (λ r. not (r .broken)) rs ≡ true) → (not (r .broken) && allOf (λ r. not (r .broken)) rs) ≡ true
     go true q h ih = absurd (omega (arith, l))
     go false q h ih = rw q (ih h)
+
+-- rules whose answers carry more than a number: the answer's number is that of the rules with their numbers alone
+pub first-number {ℓ} : {A : Type ℓ} (n : A → ℕ) (rs : List (Rule A)) (a : A) → n (firstBroken rs a) ≡ firstBroken (map (λ r. rule (r .broken) (n (r .answer))) rs) (n a)
+unfolding firstBroken
+first-number n [] a = refl
+first-number n (r ∷ rs) a = go (r .broken) (first-number n rs a)
+  where
+    go : (b : Bool) → n (firstBroken rs a) ≡ firstBroken (map (λ r. rule (r .broken) (n (r .answer))) rs) (n a)
+        → n (cond b (r .answer) (firstBroken rs a)) ≡ cond b (n (r .answer)) (firstBroken (map (λ r. rule (r .broken) (n (r .answer))) rs) (n a))
+    go true e = refl
+    go false e = e
 
 -- rules behind other rules: their answer counts where none of the first is broken
 pub first-append : (rs qs : List (Rule ℕ)) → allOf (λ r. ltb 0 (r .answer)) rs ≡ true

@@ -1,11 +1,12 @@
 -- Rows, one more at the end: their offsets, and their indices one after another.
 use mathlib.Core.Path.{_≡_, refl, ap, _∙_}
 use mathlib.Core.List.{List, [], _∷_, _++_, map, append-assoc, append-nil, map-append}
-use Prim.Native.Nat.{ℕ, _+_}
+use Prim.Native.Nat.{ℕ, _+_, _≤_}
 use native.Mathlib.Nat.{zero-add}
 use native.Mathlib.Numerals.{add-one}
 use native.Mathlib.Omega.{arith}
-use lib.ListN.{length, length-append}
+use lib.ListN.{length, drop, length-append, length-drop}
+use lib.Seq.{sets, sets-eq, take-at, drop-append-add, drop-drop}
 use Rattle.rules.specs.Lists.{upTo, joined}
 use Rattle.rules.specs.Book.{offsets}
 use Rattle.rules.proofs.Relation.{joined-append}
@@ -30,3 +31,11 @@ module _ (r : ℕ → List ℕ) where
 
   pub offsets-more : (i : ℕ) → offsets 0 (map r (upTo (i + 1))) ≡ offsets 0 (map r (upTo i)) ++ (length (joined (map r (upTo (i + 1)))) ∷ [])
   offsets-more i = rw (map-last r i, joined-last (map r (upTo i)) (r i)) (offsets-last 0 (map r (upTo i)) (r i) ∙ rw zero-add)
+
+-- words put behind what stands at the front of lent places
+pub put-behind : (front new lent : List ℕ) → length front + length new ≤ length lent
+    → sets (front ++ drop (length front) lent) (length front) new ≡ (front ++ new) ++ drop (length (front ++ new)) lent
+put-behind front new lent l =
+    let long : length front + length new ≤ length (front ++ drop (length front) lent) = rw (length-append, length-drop) (omega arith) in
+    sets-eq new (front ++ drop (length front) lent) (length front) long
+    ∙ rw (take-at front (drop (length front) lent) (length front) refl, drop-append-add front (drop (length front) lent) (length new), drop-drop, length-append)

@@ -1,19 +1,20 @@
 -- Rows of which no two are equal, by their places.
-use mathlib.Core.Path.{_≡_, sym, _∙_}
+use mathlib.Core.Path.{_≡_, sym, ap, _∙_}
 use mathlib.Core.Logic.{_⊎_, inl, inr}
 use mathlib.Core.Bool.{true, false, false≢true}
-use mathlib.Core.List.{List, [], _∷_, _++_, List·Memᴰ as In}
+use mathlib.Core.List.{List, [], _∷_, _++_, map, List·Memᴰ as In}
 use Prim.Native.Nat.{ℕ, _+_, _<_}
 use native.Mathlib.Omega.{arith}
-use lib.ListN.{length, getD, take, length-take, length-append, List·getD-append}
+use lib.ListN.{length, getD, take, length-take, length-append, length-map, List·getD-append}
 use lib.Seq.{getD-take, getD-append-add}
-use lib.Dec.{ltb}
-use Rattle.rules.specs.Lists.{upTo, anyOf, same, repeated, repeats, firstRepeated}
+use lib.Dec.{eqb, ltb}
+use Rattle.rules.specs.Lists.{upTo, anyOf, firstAt, same, repeated, repeats, firstRepeated, ascends}
 use Rattle.rules.proofs.Tests.{any-of, any-is, any-none, none-of, same-refl, same-is, getD-in, cases}
 use Rattle.rules.proofs.Keep.{upTo-of, upTo-is}
-use Rattle.rules.proofs.Numbered.{length-upTo}
+use Rattle.rules.proofs.Numbered.{length-upTo, getD-map}
 use Rattle.rules.proofs.Compared.{order, lt-or-le}
 use Rattle.rules.proofs.Searched.{any-first, place-in}
+use Rattle.rules.proofs.Ranked.{rank-of}
 
 -- no two places hold the same row
 abbrev pub Unlike : List (List ℕ) → Type 0
@@ -82,3 +83,13 @@ repeats-last rs r h n = unlike-is (rs ++ (r ∷ [])) (λ i j a b e. go i j (side
     go i j (inl x) (inr y) e = absurd (new i x (sym (end j y) ∙ sym e ∙ at i x))
     go i j (inr x) (inl y) e = absurd (new j y (sym (end i x) ∙ e ∙ at j y))
     go i j (inr x) (inr y) e = omega arith
+
+-- rows given by ascending numbers, no two of them the same row
+pub repeats-map : (g : ℕ → List ℕ) (xs : List ℕ) → ascends xs ≡ true → ((x y : ℕ) → In x xs → In y xs → g x ≡ g y → x ≡ y) → repeats (map g xs) ≡ false
+repeats-map g xs u h =
+    unlike-is (map g xs)
+    (λ i j a b e.
+    let k : i < length xs = rw length-map at a in
+    let l : j < length xs = rw length-map at b in
+    let s = h (getD xs i 0) (getD xs j 0) (getD-in xs i 0 k) (getD-in xs j 0 l) (sym (getD-map g xs i 0 [] k) ∙ e ∙ getD-map g xs j 0 [] l) in
+    sym (rank-of xs i 0 u k) ∙ ap (λ (x : ℕ). firstAt (eqb x) xs) s ∙ rank-of xs j 0 u l)

@@ -6,7 +6,6 @@ use Prim.Native.Nat.{ℕ, zero, suc, _+_, _*_, _≤_, _<_}
 use native.Mathlib.Numerals.{add-one}
 use native.Mathlib.Omega.{arith}
 use lib.ListN.{length, getD, drop, length-append, length-drop}
-use lib.Seq.{sets, sets-eq, take-at, drop-append-add, drop-drop}
 use lib.Dec.{eqb}
 use Rattle.rules.specs.Lists.{upTo, keep, joined}
 use Rattle.rules.specs.Salvage.{why, droppedOf, pairsOf}
@@ -52,11 +51,3 @@ pairs-agree one other (suc n) h =
 
 pub pairs-file : (f whys : List ℕ) (n : ℕ) → ((c : ℕ) → c < n → getD whys c 0 ≡ why f c) → pairsIn whys n ≡ pairsOf f n
 pairs-file f whys n h = unfold pairsIn in pairs-agree (λ c. getD whys c 0) (why f) n h ∙ unfold pairsBy pairsOf droppedOf in refl
-
--- a pair behind what stands at the front of a list
-pub put-behind : (front new lent : List ℕ) → length front + length new ≤ length lent
-    → sets (front ++ drop (length front) lent) (length front) new ≡ (front ++ new) ++ drop (length (front ++ new)) lent
-put-behind front new lent l =
-    let long : length front + length new ≤ length (front ++ drop (length front) lent) = rw (length-append, length-drop) (omega arith) in
-    sets-eq new (front ++ drop (length front) lent) (length front) long
-    ∙ rw (take-at front (drop (length front) lent) (length front) refl, drop-append-add front (drop (length front) lent) (length new), drop-drop, length-append)

@@ -3,7 +3,8 @@ use mathlib.Core.Path.{ap, _∙_}
 use native.Mathlib.Omega.{arith}
 use lib.ListN.{length}
 use borrow.Author.Needs.{needs}
-use Rattle.cells.proofs.Marks.{marked-used, vertices-low, cells-low}
+use Rattle.rules.specs.Book.{count}
+use Rattle.cells.proofs.Marks.{marked-named, named-used, vertices-low, cells-low}
 use Rattle.cells.proofs.used_vertices.Statement.{statement}
 use Rattle.cells.proofs.used_vertices.Tie as tie
 
@@ -27,8 +28,10 @@ returns : tie.Need-returns
 returns c =
     let m = c .before .before .before in
     let s = m .before .before .before .before in
+    let ws = s .args .book .now in
     let e = rw (m .before .before .cells .ensures) at (m .mark .ensures) in
-    rw (c .before .count .ensures, e) at (c .marked .ensures) ∙ ap length (marked-used (s .args .book .now) (s .pre .0) (s .pre .1))
+    rw (c .before .count .ensures, e) at (c .marked .ensures)
+    ∙ ap length (marked-named _ (cells-low ws (s .pre .0) (s .pre .1)) (count ws 0) ∙ named-used ws (s .pre .0) (s .pre .1))
 
 pub used-vertices-spec : {M : Type 1} → statement M
 used-vertices-spec =

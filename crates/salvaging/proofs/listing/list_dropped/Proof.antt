@@ -6,8 +6,9 @@ use native.Mathlib.Omega.{arith}
 use lib.ListN.{length, getD, drop, length-append, length-drop}
 use lib.Seq.{sets}
 use Rattle.rules.specs.Lists.{upTo, keep, joined}
+use Rattle.rules.proofs.Joined.{put-behind}
 use Rattle.salvaging.specs.Listed.{pairOf, pairsBy, pairsIn}
-use Rattle.salvaging.proofs.Pairs.{pair-most, pairs-more, pairs-most, put-behind}
+use Rattle.salvaging.proofs.Pairs.{pair-most, pairs-more, pairs-most}
 use Rattle.salvaging.proofs.listing.list_dropped.Statement.{statement}
 use Rattle.salvaging.proofs.listing.list_dropped.Tie as tie
 
