@@ -1,5 +1,5 @@
 // Each call through the proved library and through the plain program, in one run on the same meshes; after each the two hold the same.
-// Prints a line for each: the mesh, the call, both times in microseconds and their ratio; then what a book takes for each cell.
+// Prints a line for each: the mesh, the call, both times in microseconds and their ratio; then the same in milliseconds for questions to the engine, and what a book takes for each cell.
 #include "daybook.h"
 #include "plain.hpp"
 #include <chrono>
@@ -57,6 +57,33 @@ static Named fan(unsigned count) {
     Mesh cells;
     for (uint32_t k = 1; k <= count; k++) cells.push_back({0, k, k + 1});
     return {"fan " + std::to_string(count), 2, count + 2, cells, false};
+}
+
+// Tetrahedra one after another around vertex 0.
+static Named solid_fan(unsigned count) {
+    Mesh cells;
+    for (uint32_t k = 1; k <= count; k++) cells.push_back({0, k, k + 1, k + 2});
+    return {"fan3 " + std::to_string(count), 3, count + 3, cells, false};
+}
+
+// Vertex 0 with every three of so many others.
+static Named bunch(unsigned others) {
+    Mesh cells;
+    for (uint32_t a = 1; a <= others; a++)
+        for (uint32_t b = a + 1; b <= others; b++)
+            for (uint32_t c = b + 1; c <= others; c++) cells.push_back({0, a, b, c});
+    return {"bunch " + std::to_string(cells.size()), 3, others + 1, cells, false};
+}
+
+// The same mesh with its cells in another order.
+static Named shuffled(Named m) {
+    uint32_t last = 7;
+    for (size_t left = m.cells.size(); left > 1; left--) {
+        last = last * 1664525u + 1013904223u;
+        std::swap(m.cells[left - 1], m.cells[uint64_t(last) * left >> 32]);
+    }
+    m.name = m.name.substr(0, m.name.find(' ')) + " shuffled";
+    return m;
 }
 
 static std::vector<uint8_t> file_of(const Named &m) {
@@ -451,6 +478,66 @@ static void compare_sheet(const Named &m, unsigned number) {
     must(ours.why == fault.why && ours.which == fault.which, "the two programs say different things of what is no sheet");
 }
 
+// The engine of both programs, asked one question; the number that both give, and the same answer where they accept.
+static uint32_t same_answer(const std::vector<uint32_t> &book, const plain::Book &plainly, unsigned d, unsigned e, uint32_t i, uint32_t j) {
+    uint32_t yes = 7;
+    bool yes_plainly = false;
+    uint32_t number = daybook_plain(book.data(), book.size(), d, e, i, j, &yes, &key, &position);
+    must(number == plain::engine(plainly, d, e, i, j, yes_plainly), "the two engines give different numbers");
+    must(yes == (number ? 7u : uint32_t(yes_plainly)), "the two engines give different answers");
+    return number;
+}
+
+// Questions to both engines, in a book with D->0 alone: for each d and e, one past D too, the first number, the middle one, the last and one past it.
+static void compare_answers(const std::vector<uint32_t> &book, const plain::Book &plainly, const std::array<uint32_t, 4> &counts) {
+    for (unsigned d = 0; d <= plainly.dim + 1; d++)
+        for (unsigned e = 0; e <= plainly.dim + 1; e++) {
+            const bool over = d > plainly.dim || e > plainly.dim;
+            const uint32_t rows = over ? 2 : counts[d], past = over ? 2 : counts[e];
+            for (uint32_t i : {0u, rows / 2, rows - 1, rows})
+                for (uint32_t j : {0u, past / 2, past - 1, past})
+                    must(same_answer(book, plainly, d, e, i, j) == (over ? 12 : i == rows ? 17 : j == past ? 19 : 0), "another number than the entities give");
+        }
+}
+
+// The relations that the engine is asked about: 0->0, D->D, and all between, where it has to number entities, once for either direction.
+static std::vector<std::pair<unsigned, unsigned>> asked_of_engine(unsigned dim) {
+    std::vector<std::pair<unsigned, unsigned>> out = {{0, 0}};
+    for (unsigned d = 1; d < dim; d++)
+        for (unsigned e = d; e < dim; e++) out.push_back({d, e});
+    out.push_back({dim, dim});
+    return out;
+}
+
+// The longest questions to the engine, those about the last entities, in a book that holds these relations, of the words that they take. In milliseconds.
+static void compare_engine(const Named &m, const std::string &what, const std::vector<std::pair<unsigned, unsigned>> &held, const std::array<uint32_t, 4> &counts) {
+    const size_t room = book_with(m, held)[4];
+    const auto book = book_with(m, held, room);
+    plain::Book plainly = loaded(m);
+    for (auto r : held) must(plain::ask(plainly, r.first, r.second), "plain ask");
+    if (held.empty()) compare_answers(book, plainly, counts);
+    for (auto asked : asked_of_engine(m.dim)) {
+        // the last two, where both are of one dimension, since none is incident to itself
+        const unsigned from = asked.first, to = asked.second;
+        const uint32_t j = counts[to] - 1, i = from == to ? j - 1 : counts[from] - 1;
+        uint32_t yes = 0;
+        bool yes_plainly = false;
+        auto took = both([] { return 0; }, [&](int) { must(daybook_plain(book.data(), room, from, to, i, j, &yes, &key, &position) == 0, "engine"); },
+                         [&](int) { must(plain::engine(plainly, from, to, i, j, yes_plainly) == 0, "plain engine"); }, 5);
+        must(yes == uint32_t(yes_plainly), "the two engines give different answers");
+        std::printf("%-12s %u->%u %-5s %9zu %10.3f %10.3f %6.2f\n", m.name.c_str(), from, to, what.c_str(), room, took.first / 1000, took.second / 1000, took.first / took.second);
+        std::fflush(stdout);
+    }
+}
+
+// The engine's questions in a book that has only been loaded, and in one that holds all relations.
+static void compare_engines(const Named &m) {
+    plain::Book whole = loaded(m);
+    for (unsigned d = 1; d < m.dim; d++) must(plain::ask(whole, d, 0), "plain ask");
+    compare_engine(m, "D->0", {}, whole.counts);
+    compare_engine(m, "all", relations(m), whole.counts);
+}
+
 // A call on a book of so many words that holds all relations, a million times; the time of one. Each program gives a number for the k-th, and their sums agree.
 template <class Ours, class Theirs> void compare_calls(const Named &m, const std::string &what, size_t words, Ours ours, Theirs theirs) {
     const uint32_t calls = 1000000;
@@ -564,6 +651,9 @@ int main() {
     // what a row or a search in one costs does not depend on the book
     compare_rows({"1 cell", 3, 4, {{0, 1, 2, 3}}, true}, 1000);
     compare_rows(box(8, 8, 7), 1000000);
+    // questions to the engine: full meshes, meshes whose cells all share a vertex, and from two triangles to 4,050
+    std::printf("\n%-12s %-10s %9s %10s %10s %6s\n", "mesh", "question", "words", "library ms", "plain ms", "ratio");
+    for (const Named &m : {meshes[0], meshes[1], shuffled(meshes[1]), meshes[2], meshes[3], solid_fan(4096), bunch(30), sheet(1), sheet(11), sheet(22)}) compare_engines(m);
     std::printf("\n%-12s %8s %8s %8s\n", "mesh", "D->0", "all", "paper");
     for (const Named &m : meshes) memory(m);
     return 0;

@@ -25,8 +25,8 @@ def main():
     compiler, run = os.environ.get("CC_X86", "cc"), os.environ.get("EMULATOR", "")
     with open(os.path.join(TOP, "README.md")) as page:
         shown = list(blocks(page.read()))
-    if len(shown) < 18:
-        sys.exit("README.md shows %d commands: there should be eighteen" % len(shown))
+    if len(shown) < 20:
+        sys.exit("README.md shows %d commands: there should be twenty" % len(shown))
     for command, output in shown:
         words = command
         if words.startswith("cc "):

@@ -18,6 +18,7 @@
  *                           them the places for the length, the count, spare, pad and wrong_length (8, 8, 4, 4 and 4 bytes)
  *   'U' a r v e, the lists  the sheet: a cells across, r bytes of the rim, v vertices and e edges of it as they are before it; behind them the places
  *                           for the rim's length, its two counts, why and which (8, 8, 8, 4 and 4 bytes)
+ *   'I' d e i j, the place  the plain answer, whether (e, j) is incident to (d, i): the place for it (4 bytes) as it is before it
  *   'C'                     a checksum only
  *
  * Behind each letter stands what the places for a key (4 bytes) and a position (8 bytes) hold before the call.
@@ -34,6 +35,7 @@
  * upper half), and the lower half of the second out place is a checksum of its five places, one after another.
  * For the sheet the byte buffer is the rim, the first out place has checksums of the cells across (its lower half) and of the rim's vertices (its
  * upper half), and the second those of the rim's edges and of its five places, one after another.
+ * For the plain answer the lower half of the first out place is what the place for it holds.
  */
 #include "daybook.h"
 #include <stdio.h>
@@ -229,6 +231,14 @@ int main(void) {
             for (int k = 0; k < 5; k++) memcpy(next, at(said[k]), said[k].size), next += said[k].size;
             out[0] = crc(at(across), across.size) | (uint64_t)crc(at(rim_vertices), rim_vertices.size) << 32;
             out[1] = crc(at(rim_edges), rim_edges.size) | (uint64_t)crc(all, sizeof all) << 32;
+            break;
+        }
+        case 'I': {
+            uint32_t j;
+            d = number(), e = number(), i = number(), j = number();
+            take(&some, 4);
+            given = daybook_plain(words, n, d, e, i, j, (uint32_t *)at(some), key, position);
+            memcpy(out, at(some), 4);
             break;
         }
         case 'C':

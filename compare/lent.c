@@ -1,6 +1,6 @@
 /* Runs of the C interface that need C: the sizes that the header promises are enough, the stack that each call
  * needs, on right and on broken books and files, measured by painting it, what a search reads of a row and a salvage
- * of a file, what a sheet reads and writes, and calls side by side in threads.
+ * of a file, what a sheet and a plain answer read and write, and calls side by side in threads.
  *
  * Prints what it measured, and ends with 1 at the first thing that is not as the header says.
  */
@@ -15,7 +15,7 @@
 #include <sys/mman.h>
 #include <unistd.h>
 
-enum { STACK = 1 << 20, THREADS = 8, ROUNDS = 6, CALLS = 15 };
+enum { STACK = 1 << 20, THREADS = 8, ROUNDS = 6, CALLS = 16, PLAINS = 8 };
 
 static void fail(const char *what) {
     printf("not as the header says: %s\n", what);
@@ -279,6 +279,12 @@ static uint32_t outline(const uint32_t *book, size_t words, struct outlined *o, 
 
 static struct outlined outlined;
 
+/* The plain answer for the last entities of dimensions d and e, in a book that keeps their numbers. */
+static uint32_t plain_of(struct call *c) {
+    uint32_t yes;
+    return daybook_plain(c->book, c->words, c->d, c->e, entities_of(c->book, c->d) - 1, entities_of(c->book, c->e) - 1, &yes, &c->key, &c->position);
+}
+
 static void *make_call(void *place) {
     struct call *c = place;
     uint32_t cell = 0, count = 0, yes = 0;
@@ -302,6 +308,7 @@ static void *make_call(void *place) {
     case 12: c->number = whole_box_of(c); break;
     case 13: c->number = salvage(file, c->size, &saved); break;
     case 14: c->number = outline(c->book, c->words, &outlined, &c->key, &c->position); break;
+    case 15: c->number = plain_of(c); break;
     default: break;
     }
     return NULL;
@@ -332,8 +339,8 @@ static void measured(struct call *c) {
 
 /* The calls that check the whole book, on one that is broken here. */
 static void find_broken(struct call *c, uint32_t key, size_t position) {
-    static const int checking[] = {1, 2, 4, 5, 9, 10, 11, 12, 14};
-    for (int k = 0; k < 9; k++) {
+    static const int checking[] = {1, 2, 4, 5, 9, 10, 11, 12, 14, 15};
+    for (int k = 0; k < 10; k++) {
         c->which = checking[k], c->d = 0, c->e = 0;
         c->key = 99, c->position = 99;
         measured(c);
@@ -642,6 +649,83 @@ static void sheets_stay_within(void) {
     printf("63 sheets read their book and write their lists and nothing behind them\n");
 }
 
+/* ---- what a plain answer reads and writes */
+
+/* A plain answer with its three places before walls: 1 where it touches what it may not. */
+static int trespasses(const uint32_t *book, size_t words, const uint32_t ask[4], const struct walled places[3], uint32_t *number) {
+    if (sigsetjmp(met, 1)) return 1;
+    *number = daybook_plain(book, words, ask[0], ask[1], ask[2], ask[3], (uint32_t *)(void *)places[0].at, (uint32_t *)(void *)places[1].at, (size_t *)(void *)places[2].at);
+    return 0;
+}
+
+/* A plain answer before walls, which has to give this number: where accepted its one place has what it has elsewhere, with 11 the other two have this, and all that is not written stays. */
+static void plain_is(const uint32_t *book, size_t words, const uint32_t ask[4], uint32_t due, uint32_t due_key, size_t due_position) {
+    struct walled places[3] = {wall(4), wall(4), wall(8)};
+    uint32_t number = 99, yes, key, kept, left;
+    size_t position;
+    memcpy(&kept, places[0].at, 4), yes = kept;
+    if (trespasses(book, words, ask, places, &number)) fail("a plain answer that touches what is not lent");
+    if (number != due || daybook_plain(book, words, ask[0], ask[1], ask[2], ask[3], &yes, &key, &position) != due) fail("the number of a plain answer between walls");
+    if (due ? yes != kept : yes > 1) fail("a plain answer that is neither 1 nor 0, or is given with a refusal");
+    if (memcmp(places[0].at, &yes, 4)) fail("a plain answer elsewhere");
+    memcpy(&left, places[1].at, 4);
+    if (left != (due == DAYBOOK_ROWS_BROKEN ? due_key : kept)) fail("the key of a plain answer");
+    memset(&position, 0x5A, sizeof position);
+    if (memcmp(places[2].at, due == DAYBOOK_ROWS_BROKEN ? &due_position : &position, 8)) fail("the position of a plain answer");
+    for (int k = 0; k < 3; k++) munmap(places[k].pages, places[k].all);
+}
+
+/* Plain answers in a book that may be read and not written, of just the words that it uses: for each d and e the first and the last, and one past the last of either; then with a word behind the
+ * book, which may not be read; with an index too large; and with no words. */
+static void plain_between_walls(struct mesh m) {
+    size_t words = 60000;
+    uint32_t *book = calloc(words, 4), cell, number = 99, count[4];
+    if (!book) exit(3);
+    if (daybook_load(file, file_of(m, file), book, words, &cell)) fail("a small mesh");
+    size_t own = book[4];
+    for (uint32_t d = 1; d < m.dim; d++)
+        if (ask(book, words, d, 0)) fail("the edges and faces of a small mesh");
+    for (uint32_t d = 0; d <= m.dim; d++) count[d] = entities_of(book, d);
+    if (daybook_load(file, file_of(m, file), book, words, &cell)) fail("a small mesh again");
+    struct walled lent = wall(own * 4);
+    size_t behind = (size_t)sysconf(_SC_PAGESIZE);
+    memcpy(lent.at, book, own * 4);
+    if (mprotect(lent.pages, lent.all - behind, PROT_READ)) exit(3);
+    const uint32_t *shown = (const uint32_t *)(const void *)lent.at;
+    for (uint32_t d = 0; d <= m.dim; d++)
+        for (uint32_t e = 0; e <= m.dim; e++)
+            for (int turn = 0; turn < 16; turn++) {
+                const uint32_t near[2][4] = {{0, count[d] / 2, count[d] - 1, count[d]}, {0, count[e] / 2, count[e] - 1, count[e]}};
+                const uint32_t wanted[4] = {d, e, near[0][turn / 4], near[1][turn % 4]};
+                plain_is(shown, own, wanted, wanted[2] >= count[d] ? DAYBOOK_NO_SUCH_ENTITY : wanted[3] >= count[e] ? DAYBOOK_NO_SUCH_INDEX : DAYBOOK_ACCEPTED, 0, 0);
+            }
+    const uint32_t over[2][4] = {{m.dim + 1, 0, 0, 0}, {0, m.dim + 1, 0, 0}}, cells[4] = {m.dim, m.dim, 0, 0};
+    for (int k = 0; k < 2; k++) plain_is(shown, own, over[k], DAYBOOK_DIMENSION_OVER, 0, 0);
+    struct walled places[3] = {wall(4), wall(4), wall(8)};
+    if (!trespasses(shown, own + 1, cells, places, &number)) fail("a page behind a book that may not be read");
+    for (int k = 0; k < 3; k++) munmap(places[k].pages, places[k].all);
+    plain_is(shown, 0, cells, DAYBOOK_FRAME_BROKEN, 0, 0);
+    if (mprotect(lent.pages, lent.all - behind, PROT_READ | PROT_WRITE)) exit(3);
+    memset(lent.at + own * 4 - 4, 0xFF, 4);
+    if (m.cells) plain_is(shown, own, cells, DAYBOOK_ROWS_BROKEN, 4 * m.dim, own - 5 - 1);
+    munmap(lent.pages, lent.all);
+    free(book);
+    free(m.corners);
+}
+
+/* Chains, squares and tetrahedra of many sizes, so that the books begin at many addresses; and no cells at all. */
+static void plain_answers_stay_within(void) {
+    struct sigaction on = {0};
+    on.sa_handler = on_fault;
+    sigaction(SIGSEGV, &on, NULL);
+    for (unsigned n = 1; n < 20; n++) plain_between_walls(chain(n));
+    for (unsigned n = 2; n < 12; n++) plain_between_walls(sheet(n));
+    for (unsigned n = 2; n < 8; n++) plain_between_walls(stacked(n));
+    for (unsigned dim = 1; dim <= 3; dim++) plain_between_walls(apart(dim, 0));
+    signal(SIGSEGV, SIG_DFL);
+    printf("plain answers in 38 books read their book and write their places and nothing behind them\n");
+}
+
 /* ---- side by side */
 
 struct worker {
@@ -651,7 +735,18 @@ struct worker {
     double boxes[2][6];
     struct salvaged saved;
     struct outlined outlined;
+    uint32_t plain[16][PLAINS];
 };
+
+/* Plain answers for each d and e, two entities each time. */
+static uint32_t answer_plainly(const uint32_t *book, size_t words, uint32_t plain[16][PLAINS]) {
+    uint32_t number = 0, top = book[0] >> 30, key;
+    size_t position;
+    for (uint32_t pair = 0; pair < 16; pair++)
+        for (uint32_t k = 0, d = pair / 4, e = pair % 4; d <= top && e <= top && k < PLAINS; k++)
+            number |= daybook_plain(book, words, d, e, 17 * k % entities_of(book, d), 5 * k % entities_of(book, e), &plain[pair][k], &key, &position);
+    return number;
+}
 
 static void *work(void *place) {
     struct worker *w = place;
@@ -667,6 +762,8 @@ static void *work(void *place) {
     memset(&w->outlined, 0x5A, sizeof w->outlined);
     w->number |= ask(w->book, w->words, 1, 0);
     w->sheet = outline(w->book, w->words, &w->outlined, &key, &position);
+    memset(w->plain, 0x5A, sizeof w->plain);
+    w->number |= answer_plainly(w->book, w->words, w->plain);
     return NULL;
 }
 
@@ -693,6 +790,7 @@ static void side_by_side(void) {
             if (memcmp(&alone.saved, &workers[k].saved, sizeof alone.saved)) fail("salvages of different files side by side");
             if (workers[k].sheet != (k % 2 ? DAYBOOK_NOT_SHEET : DAYBOOK_ACCEPTED) || memcmp(&alone.outlined, &workers[k].outlined, sizeof alone.outlined))
                 fail("sheets in different books side by side");
+            if (memcmp(alone.plain, workers[k].plain, sizeof alone.plain)) fail("plain answers in different books side by side");
             free(alone.book);
             free(workers[k].book);
         }
@@ -702,8 +800,8 @@ static void side_by_side(void) {
 
 int main(void) {
     setvbuf(stdout, NULL, _IOLBF, 0);
-    static const char *names[] = {"load", "ask", "make", "row", "write", "euler", "held_count", "find", "ask_list", "closures", "drop", "box", "whole_box", "salvage", "sheet"};
-    static const size_t kilobytes[] = {128, 512, 512, 16, 64, 64, 16, 16, 512, 64, 64, 64, 128, 256, 256};
+    static const char *names[] = {"load", "ask", "make", "row", "write", "euler", "held_count", "find", "ask_list", "closures", "drop", "box", "whole_box", "salvage", "sheet", "plain"};
+    static const size_t kilobytes[] = {128, 512, 512, 16, 64, 64, 16, 16, 512, 64, 64, 64, 128, 256, 256, 64};
     enough("a sheet of 3,698 triangles", sheet(44));
     enough("two stacked scans of 4,056 tetrahedra", stacked(27));
     enough("a chain of 4,096 intervals", chain(4096));
@@ -728,6 +826,7 @@ int main(void) {
     reads_no_further();
     reads_no_more_than_the_file();
     sheets_stay_within();
+    plain_answers_stay_within();
     side_by_side();
     return 0;
 }

@@ -286,12 +286,12 @@ def file_to_salvage(rng):
     return bytes(data)
 
 
-def lying_book(rng, room):
-    """A book that breaks no rule and tells no truth: different cells; any relations, with all that they are made from or without; N_1 and N_2
-    as many as the cells have, or not; and any rows that ascend and lie below the counts."""
+def lying_book(rng, room, crowded=False):
+    """A book that breaks no rule and tells no truth: different cells, where `crowded` more of them on few vertices, so that they share edges; any relations, with all that they are made from or without;
+    N_1 and N_2 as many as the cells have, or not; and any rows that ascend and lie below the counts."""
     D = rng.choice((1, 2, 2, 3, 3))
-    points = rng.choice((4, 5, 7))
-    count = min(rng.choice((0, 1, 2, 4)), math.comb(points, D + 1))
+    points = rng.choice((5, 6) if crowded else (4, 5, 7))
+    count = min(rng.choice((4, 5) if crowded else (0, 1, 2, 4)), math.comb(points, D + 1))
     cells = rng.sample(list(itertools.combinations(range(points), D + 1)), count)
     held, complete = {(D, 0)}, rng.random() < 0.3
     if rng.random() < 0.4:
@@ -411,6 +411,13 @@ def unmade(book):
     """Each d, 0 < d < D, whose N_d is kept though d→0 is not held, in a book whose frame is right."""
     frame = rules.Frame.of(book)
     return [d for d in range(1, frame.D) if rules.names(frame.held, d) and (d, 0) not in frame.held]
+
+
+def miscounted(book, more):
+    """Each d, 0 < d < D, whose N_d is kept and is more, or less, than the number of vertex sets that the cells have, in a right book."""
+    frame = rules.Frame.of(book)
+    found = {d: {vertices for cell in frame.rows(frame.D, 0) for vertices in itertools.combinations(cell, d + 1)} for d in range(1, frame.D)}
+    return [d for d in found if d in frame.counts and frame.counts[d] != len(found[d]) and (frame.counts[d] > len(found[d])) == more]
 
 
 def damaged_book(rng, book):

@@ -5,6 +5,7 @@ where the library takes the quick one, so that a mistake has to be made twice to
 A file is a bytes object, a book a list of numbers below 2^32 that the calls change in place.
 """
 
+import functools
 import math
 from collections import namedtuple
 from fractions import Fraction
@@ -673,3 +674,49 @@ def sheet(book, across, rim, rim_vertices, rim_edges):
     rim_vertices[:len(vertices)] = vertices
     rim_edges[:len(edges)] = edges
     return 0, Rim(len(file), len(vertices), len(edges)), None, None
+
+
+# ---- a plain answer: from the cells' vertex sets and nothing else that a book holds
+
+def vertex_sets(frame, d):
+    """The vertex set of each entity of dimension d, of a right book: every vertex, or what the cells have, by first meeting."""
+    if d == 0:
+        return [{v} for v in range(frame.counts[0])]
+    met = {}  # in the order in which its keys came
+    for cell in frame.rows(frame.D, 0):
+        for vertices in choose(d + 1, cell):
+            met.setdefault(tuple(vertices), len(met))
+    return [set(vertices) for vertices in met]
+
+
+@functools.lru_cache(maxsize=1)
+def numbered(words):
+    """What a book says of its entities: 10, 11 or else 0, with 11 the place, and the vertex sets of each dimension. A book that is asked again and again is numbered once."""
+    frame, number, place = checked(list(words))
+    return number, place, None if number else [vertex_sets(frame, d) for d in range(frame.D + 1)]
+
+
+def incident(sets, d, e, i, j):
+    """Whether (e, j) is incident to (d, i), by the vertex sets of each dimension, those of the cells the last."""
+    one, other = sets[d][i], sets[e][j]
+    if d > e:
+        return other <= one
+    if d < e:
+        return one <= other
+    if d > 0:
+        return j != i and not one.isdisjoint(other)
+    return j != i and any(i in cell and j in cell for cell in sets[-1])
+
+
+def plain(book, d, e, i, j):
+    """(number, yes, place), no on a refusal"""
+    number, place, sets = numbered(tuple(book))
+    if number:
+        return number, False, place
+    if d >= len(sets) or e >= len(sets):
+        return 12, False, None
+    if i >= len(sets[d]):
+        return 17, False, None
+    if j >= len(sets[e]):
+        return 19, False, None
+    return 0, incident(sets, d, e, i, j), None

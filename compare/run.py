@@ -6,8 +6,8 @@ lent word, byte and float (by its bits), and every guard word must agree.
 --full adds meshes of the full size. It prints, for each call, how often each number was given, how often each
 answer of a list of asks and each closure of a face was written, how often random calls met each kind of place
 where a book is broken, each answer that comes of dropping relations, each kind of mesh that an Euler number was
-given for, each answer and kind of a box, of a salvage and of a sheet, and the seed. From 20,000 calls on each of
-these has to be met, from 200,000 on a hundred times.
+given for, each answer and kind of a box, of a salvage, of a sheet and of a plain answer, and the seed. From 20,000
+calls on each of these has to be met, from 200,000 on a hundred times.
 """
 
 import argparse
@@ -61,6 +61,16 @@ SHEET_KINDS = tuple("%s, %s" % kind for kind in itertools.product(("rim", "no ri
     "in no cell", "in three or more", "two, listed", "four, listed", "first alone not listed", "second alone not listed", "third alone not listed", "1→0 missing", "2→1 missing", "1→2 missing", "15 over 28", "2 over 3", "2 over 4", "3 over 4",
     "28 over 18", "28 over 21", "29 over 18", "29 over 21", "18 over 21", "4096 edges", "4095 edges", "4097 edges",
     "across longer", "across shorter", "vertices shorter", "edges shorter")
+# What plain answers give: each number, and yes and no for each D, d and e.
+PLAINS = tuple("plain %d" % number for number in (0, 10, 11, 12, 17, 19)) + tuple(
+    "D = %d, %d→%d, %s" % (D, d, e, answer) for D in (1, 2, 3) for d in range(D + 1) for e in range(D + 1) for answer in ("yes", "no"))
+# What they were given for: by each rule yes and no, in books that calls alone have written since a load and in others; 12 for d alone and for e alone, and 17 where 19 would have come too; entities
+# of a dimension whose number the book does not keep, or keeps though d→0 was dropped; relations that are not held; vertices that no cell uses; and, in books that lie, what a search in the held row
+# says instead, also where it finds and the answer is a refusal.
+PLAIN_RULES = ("inside", "around", "shared vertex", "shared cell")
+PLAIN_KINDS = tuple("%s, %s, %s" % kind for kind in itertools.product(PLAIN_RULES, ("yes", "no"), ("reached", "not reached"))) + (
+    "12 for d alone", "12 for e alone", "17 over 19", "not kept, reached", "not kept, not reached", "dropped, reached", "not held, reached", "unused vertex",
+    "yes, and found no", "no, and found yes", "yes, and found 17", "no, and found 17", "yes, and found 19", "no, and found 19", "17, and found", "19, and found")
 # Floats by their bits: zeros, the least of all and the least that is normal and its neighbour, ones, the greatest and its neighbour.
 ZEROS = (0, 1 << 63)
 SMALL = ZEROS + tuple(sign << 63 | bits for sign in (0, 1) for bits in (1, 2, (1 << 52) - 1, 1 << 52))
@@ -157,6 +167,11 @@ def floats(steps):
     return b"".join(step if isinstance(step, bytes) else struct.pack("<d", float(step)) for step in steps)
 
 
+def outcome(number, yes):
+    """What a search or a plain answer gives, in a word."""
+    return str(number) if number else "yes" if yes else "no"
+
+
 class Runs:
     def __init__(self, seed, library, calls):
         self.rng, self.library, self.left = random.Random(seed), library, calls
@@ -169,10 +184,11 @@ class Runs:
 
     def count_kinds(self):
         """Counts from 0 how often each kind of place is met, by the calls that check the whole book, by row and by find; what comes of drops; what an
-        Euler number is given for; what boxes give; what salvages give; and what the sheet gives."""
+        Euler number is given for; what boxes give; what salvages give; what the sheet gives; and what plain answers give."""
         self.kinds = {"places": dict.fromkeys(rules.KINDS, 0), "row's": dict.fromkeys(rules.OWN_KINDS, 0), "find's": dict.fromkeys(rules.OWN_KINDS, 0),
                       "room": dict.fromkeys(ROOM, 0), "points": dict.fromkeys(POINTS, 0), "boxes": dict.fromkeys(BOXES + BOX_KINDS, 0),
-                      "salvages": dict.fromkeys(SALVAGES + SALVAGE_KINDS, 0), "sheets": dict.fromkeys(SHEETS + SHEET_KINDS, 0)}
+                      "salvages": dict.fromkeys(SALVAGES + SALVAGE_KINDS, 0), "sheets": dict.fromkeys(SHEETS + SHEET_KINDS, 0),
+                      "plains": dict.fromkeys(PLAINS + PLAIN_KINDS, 0)}
 
     def fail(self, what, got, wanted):
         print("DISAGREE: %s: the library says %s, the reference %s" % (what, got, wanted))
@@ -208,7 +224,7 @@ class Runs:
             raise SystemExit("%s: 25 in a book that calls alone have written" % name)
 
     def meet(self, what):
-        for row in (self.kinds["room"], self.kinds["boxes"], self.kinds["salvages"], self.kinds["sheets"]):
+        for row in (self.kinds["room"], self.kinds["boxes"], self.kinds["salvages"], self.kinds["sheets"], self.kinds["plains"]):
             if what in row:
                 row[what] += 1
 
@@ -501,6 +517,85 @@ class Runs:
                 sizes[which] += rng.choice((1, 1, 2, 3, 30))
         return self.sheet(*self.places_for(*sizes))
 
+    def plain(self, d, e, i, j):
+        """The call's number, and whether it says yes."""
+        self.past = self.book
+        before = self.rng.choice((0, 1, self.rng.getrandbits(32)))
+        number, yes, place = rules.plain(self.book, d, e, i, j)
+        text = b"I" + packed([d, e, i, j, before])
+        self.check("plain", text, number, OUT & LOW | (before if number else yes), OUT, what=(d, e, i, j), place=place)
+        if number not in (10, 11):
+            self.meet_plain(number, yes, d, e, i, j)
+        return number, yes
+
+    def meet_plain(self, number, yes, d, e, i, j):
+        """Counts what a plain answer was given for, and what a search says. In a book that calls alone have written both say the same."""
+        frame, sets = rules.Frame.of(self.book), rules.numbered(tuple(self.book))[2]
+        if number == 12:
+            self.meet("12 for %s alone" % "".join(name for name, dimension in (("d", d), ("e", e)) if dimension > frame.D))
+            return
+        if number == 17 and j >= len(sets[e]):
+            self.meet("17 over 19")
+        if (d, e) in frame.held:
+            found = (rules.find(self.book, d, e, i, j) if self.file is None else self.find(d, e, i, j))[:2]
+            if self.file is not None:
+                self.demand("a plain answer, where a search says so", (number, yes), found)
+            self.meet("%d, and found" % number if number and found[0] == 0 else "%s, and found %s" % (outcome(number, yes), outcome(*found)))
+        if number == 0:
+            self.meet_incidence(frame, sets, outcome(number, yes), d, e, i, j)
+
+    def meet_incidence(self, frame, sets, given, d, e, i, j):
+        """Counts a yes or a no by its rule, and by what the book holds of the two entities."""
+        reached = "not reached" if self.file is None else "reached"
+        self.meet("D = %d, %d→%d, %s" % (frame.D, d, e, given))
+        self.meet("%s, %s, %s" % (PLAIN_RULES[0 if d > e else 1 if d < e else 2 if d else 3], given, reached))
+        between = [x for x in (d, e) if 0 < x < frame.D]
+        if any(x not in frame.counts for x in between):
+            self.meet("not kept, %s" % reached)
+        if any(x in frame.counts and (x, 0) not in frame.held for x in between):
+            self.meet("dropped, %s" % reached)
+        if (d, e) not in frame.held:
+            self.meet("not held, %s" % reached)
+        if any(x == 0 and not any(v in cell for cell in sets[-1]) for x, v in ((d, i), (e, j))):
+            self.meet("unused vertex")
+
+    def entity(self, frame, sets, d):
+        """The number of an entity, mostly of one that the cells have; or one between their count and the book's own, where it lies; or one past the last, or any number."""
+        rng, own = self.rng, len(sets[d]) if sets and d < len(sets) else 0
+        kept = frame.counts.get(d, own) if frame else 0
+        if own != kept and rng.random() < 0.35:
+            return rng.randrange(min(own, kept), max(own, kept))
+        if own and rng.random() < 0.9:
+            return rng.choice((own - 1, rng.randrange(own), rng.randrange(own)))
+        return rng.choice((own, own, own + 1, kept, self.number()))
+
+    def some_dimensions(self, frame, false):
+        """d and e, mostly both up to D, at times of a relation that is held, best of one with a false count, rather for e than for d; or one of them over D."""
+        rng = self.rng
+        if not frame or rng.random() < 0.03:
+            return self.dimension(), self.dimension()
+        d, e = rng.randrange(frame.D + 1), rng.randrange(frame.D + 1)
+        if rng.random() < (0.6 if false else 0.2):
+            held = sorted(frame.held)
+            d, e = rng.choice([pair for pair in held if pair[rng.choice((0, 1, 1))] in false] or held)
+        over = rng.choice((frame.D + 1, 4, 0xFFFFFFFF))
+        return rng.choice(((over, e), (d, over))) if rng.random() < 0.03 else (d, e)
+
+    def some_plain(self):
+        """A plain answer, mostly for two entities that there are, as often a yes as a no; or for others, at times for one that a held row has, or for other dimensions."""
+        rng, frame = self.rng, rules.Frame.of(self.book)
+        sets = rules.numbered(tuple(self.book))[2]
+        false = {d for d in frame.counts if len(sets[d]) != frame.counts[d]} if sets else set()
+        d, e = self.some_dimensions(frame, false)
+        i, j = [self.entity(frame, sets, x) for x in (d, e)]
+        start, count = rules.row(self.book, d, e, i)[1:3]
+        if false & {d, e} and count and rng.random() < 0.4:
+            j = rng.choice((self.book[start + count - 1], rng.choice(self.book[start:start + count])))
+        elif sets and max(d, e) <= frame.D and i < len(sets[d]) and j < len(sets[e]) and rng.random() < 0.9:
+            wanted = rng.random() < 0.5
+            j = rng.choice([other for other in range(len(sets[e])) if rules.incident(sets, d, e, i, other) == wanted] or [j])
+        return self.plain(d, e, i, j)
+
     def dimension(self):
         return self.rng.choice((0, 0, 1, 1, 2, 2, 3, 3, 4, 0xFFFFFFFF)) if self.rng.random() < 0.2 else self.rng.randrange(4)
 
@@ -694,6 +789,8 @@ class Runs:
             self.some_box()
         elif rng.random() < 0.05:
             self.some_sheet()
+        elif rng.random() < 0.1:
+            self.some_plain()
         else:
             self.look()
 
@@ -874,6 +971,34 @@ class Runs:
         self.some_sheet()
         self.sheet(*self.places_for(0, 0, 0, 0))
 
+    def plain_run(self):
+        """Plain answers in a book that calls alone have written, with relations asked for and dropped, or in lying ones, mostly such as have a false count; at times with a word changed, or broken
+        or damaged."""
+        rng = self.rng
+        reached = rng.random() < 0.5
+        for _ in range(1 if reached else 3):
+            if reached:
+                self.use([7] * rng.choice((100, 900, 900)))
+                D, points, cells = meshes.random_mesh(rng, rng.choice((1, 1, 2, 2, 2, 3, 3, 3, 3)), rng.choice((5, 6, 8, 12)), rng.choice((0, 1, 2, 5, 5, 8, 14, 14)))
+                self.load(rules.file_bytes(D, points + rng.choice((0, 0, 0, 2)), cells))
+                for _ in range(rng.randrange(4)):
+                    self.relation("ask", rng.randrange(D + 1), rng.randrange(D + 1))
+                for pair in ((1, 0), (2, 0), (0, 1)):
+                    if rng.random() < 0.4:
+                        self.relation("drop", *pair)
+            else:
+                books, more = [meshes.lying_book(rng, 3, rng.random() < 0.6) for _ in range(5)], rng.random() < 0.5
+                self.use(next((book for book in books if meshes.miscounted(book, more)), books[0]))
+            way = rng.random()
+            if way < 0.05:
+                self.use(meshes.worn_book(rng, self.book))
+            elif way < 0.1 and rules.checked(self.book)[1] == 0:
+                self.use(meshes.broken_book(rng, self.book))
+            elif way < 0.15:
+                self.use(meshes.damaged_book(rng, self.book))
+            for _ in range(16 if reached else 6):
+                self.some_plain()
+
     def broken_run(self):
         """Faults in a right book, true or lying: calls that check the whole book, and rows and searches at the offsets that are broken, or anywhere."""
         rng = self.rng
@@ -889,7 +1014,7 @@ class Runs:
         for d, e, i in rng.sample(rows, min(2, len(rows))):
             self.row(d, e, i)
             self.find(d, e, i, self.number())
-        for way in rng.sample(range(9), 3):
+        for way in rng.sample(range(10), 3):
             if way < 3:
                 self.relation(("make", "ask", "drop")[way], self.dimension(), self.dimension())
             elif way == 3:
@@ -902,6 +1027,8 @@ class Runs:
                 self.some_box()
             elif way == 7:
                 self.some_sheet()
+            elif way == 8:
+                self.some_plain()
             else:
                 self.look()
 
@@ -934,6 +1061,7 @@ class Runs:
         self.repeats_of_full_size()
         self.salvages_of_full_size()
         self.sheets_of_full_size()
+        self.plains_of_full_size()
         many = bytearray(rules.file_bytes(*whole))
         for at in (0, 2):
             more = bytearray(many)
@@ -956,6 +1084,7 @@ class Runs:
                 self.use([0xFFFFFFFF] * room)
                 self.load(rules.file_bytes(*mesh))
                 if not any(self.ask_list(pairs, [0xFFFFFFFF] * (len(pairs) // 2))[1]):
+                    self.plains_here(3)
                     self.drops_of_full_size()
                     self.places_of_full_size()
 
@@ -1097,6 +1226,35 @@ class Runs:
             self.use(meshes.assembled(2, counts, others, 0))
             self.demand("the last row of %d→%d" % relation, self.sheet(*self.places_for(3 * n, 13316, 2 * n, n)), (28, wanted))
 
+    def plains_of_full_size(self):
+        """Plain answers in books that hold the cells alone, in just the words that they take: meshes of 4,096 cells or nearly so, of each dimension, those of bench/ among them."""
+        for mesh in (meshes.scattered(4096, 8192), meshes.box(8, 8, 10), meshes.strip(3, 8192, 4093), meshes.sheet(46, 46), meshes.fan(4098), meshes.pages(4098), meshes.torus(64, 32),
+                     meshes.random_mesh(self.rng, 1, 8192, 4096)):
+            self.use([0xFFFFFFFF] * (6 + len(mesh[2]) * (mesh[0] + 2)))
+            self.demand("a file of the full size", self.load(rules.file_bytes(*mesh)), 0)
+            self.plains_here(12)
+
+    def plains_here(self, many):
+        """Plain answers for each d and e: the first and the last of both, and one past the last; and so many times two that lie in one cell, and any two."""
+        sets = rules.numbered(tuple(self.book))[2]
+        places = [{frozenset(vertices): i for i, vertices in enumerate(of)} for of in sets]
+        for d, e in itertools.product(range(len(sets)), repeat=2):
+            most = len(sets[d]), len(sets[e])
+            for i, j in itertools.product((0, most[0] - 1, most[0]), (0, most[1] - 1, most[1])):
+                self.demand("the number for %d of %d and %d of %d" % (i, most[0], j, most[1]), self.plain(d, e, i, j)[0], 17 if i == most[0] else 19 if j == most[1] else 0)
+            for _ in range(many):
+                self.plain(d, e, *self.in_one_cell(sets, places, d, e))
+                self.plain(d, e, self.rng.randrange(most[0]), self.rng.randrange(most[1]))
+
+    def in_one_cell(self, sets, places, d, e):
+        """Two entities of one cell, as often as not one inside the other."""
+        rng = self.rng
+        cell = sorted(rng.choice(sets[-1]))
+        larger = rng.sample(cell, max(d, e) + 1)
+        smaller = rng.sample(rng.choice((cell, larger)), min(d, e) + 1)
+        one, other = (larger, smaller) if d >= e else (smaller, larger)
+        return places[d][frozenset(one)], places[e][frozenset(other)]
+
     def places_of_full_size(self):
         """The book with all relations, broken at its far end and then ever nearer: its last word, the last index of D→D, an offset of D→0, the first offset."""
         frame, book, used = rules.Frame.of(self.book), list(self.book), self.book[4]
@@ -1124,7 +1282,7 @@ class Runs:
 
     def examples(self):
         """Examples by hand, whose numbers stand here as they were worked out: 10 and 11 of the paper, cells twice, searches, lists of asks, phase closures, drops,
-        unused points, boxes, salvages, and sheets."""
+        unused points, boxes, salvages, sheets, and plain answers."""
         t = rules.file_bytes(2, 4, [[0, 1, 3], [1, 2, 3]])
         for room, number in ((54, 0), (53, 13)):
             self.use([7] * room)
@@ -1166,6 +1324,10 @@ class Runs:
         self.sheets_that_lie()
         self.no_sheets()
         self.sheets_refused(t)
+        self.plains(t)
+        self.plains_of_others()
+        self.plains_that_lie()
+        self.plains_refused(t)
 
     def cells_twice(self, t):
         """A cell that repeats an earlier one, in files and in books; and an edge in three triangles, which is allowed."""
@@ -1249,7 +1411,8 @@ class Runs:
         for name, call in (("make", lambda: self.relation("make", 9, 9)), ("ask", lambda: self.relation("ask", 2, 0)), ("write", lambda: self.write(3)),
                            ("euler", self.euler), ("closures", lambda: self.closures([65535], *self.unwritten(1, 1, 1))[0]),
                            ("drop", lambda: self.relation("drop", 9, 9)), ("box", lambda: self.box([NOT_FINITE[0]], 9, 9, 9)[0]),
-                           ("whole_box", lambda: self.whole_box([NOT_FINITE[0]], 9)[0]), ("sheet", lambda: self.sheet(*self.places_for(1, 1, 1, 1))[0])):
+                           ("whole_box", lambda: self.whole_box([NOT_FINITE[0]], 9)[0]), ("sheet", lambda: self.sheet(*self.places_for(1, 1, 1, 1))[0]),
+                           ("plain", lambda: self.plain(9, 9, 9, 9)[0])):
             self.demand("%s of a book broken at %s" % (name, place), (call(), self.told), (11, place))
         self.demand("a list", self.ask_list([9, 9, 2, 0], [7, 7]), (0, [11, 11]))
 
@@ -1782,6 +1945,90 @@ class Runs:
             for sizes in ((6, 17, 4, 4), (0, 0, 0, 0)):
                 self.demand("a broken book", self.sheet(*self.places_for(*sizes)), (number, None))
 
+    def plain_rows(self, d, e, count):
+        """The rows of d→e as plain answers give them, where there are so many j: in each all that get a yes. One past the last j is 19, and one past the last i is 17 whatever j is."""
+        rows = []
+        while self.plain(d, e, len(rows), count)[0] == 19:
+            given = [self.plain(d, e, len(rows), j) for j in range(count)]
+            self.demand("accepted, %d→%d" % (d, e), [number for number, _ in given], [0] * count)
+            rows.append([j for j, (_, yes) in enumerate(given) if yes])
+        self.demand("one past the last of %d→%d" % (d, e), [self.plain(d, e, len(rows), j) for j in (0, count)], [(17, False)] * 2)
+        return rows
+
+    def plains(self, t):
+        """T has the paper's rows, whatever is held: the cells alone, in 14 words; all nine relations; and what drops leave of them."""
+        rows = {(0, 0): [[1, 3], [0, 2, 3], [1, 3], [0, 1, 2]], (0, 1): [[0, 1], [0, 2, 3], [3, 4], [1, 2, 4]], (0, 2): [[0], [0, 1], [1], [0, 1]],
+                (1, 0): [[0, 1], [0, 3], [1, 3], [1, 2], [2, 3]], (1, 1): [[1, 2, 3], [0, 2, 4], [0, 1, 3, 4], [0, 2, 4], [1, 2, 3]], (1, 2): [[0], [0], [0, 1], [1], [1]],
+                (2, 0): [[0, 1, 3], [1, 2, 3]], (2, 1): [[0, 1, 2], [2, 3, 4]], (2, 2): [[1], [0]]}
+        self.use([7] * 14)
+        self.load(t)
+        for state in ("the cells alone", "all nine", "drops"):
+            for (d, e), wanted in rows.items():
+                self.demand("%d→%d with %s" % (d, e, state), self.plain_rows(d, e, (4, 5, 2)[e]), wanted)
+            if state == "the cells alone":
+                self.nine(t)
+            elif state == "all nine":
+                self.demand("drops", [self.relation("drop", d, e) for d, e in ((1, 0), (0, 2), (1, 2), (0, 0))], [0] * 4)
+
+    def plains_of_others(self):
+        """Two tetrahedra that share the face 1 2 3, and a point that neither has; five triangles around vertex 0, the last of which has the first edge of all; an interval; and no cells. Edges and
+        faces are numbered cell by cell, and the rows are worked out by hand."""
+        self.use([7] * 16)
+        self.load(rules.file_bytes(3, 6, [[3, 1, 0, 2], [4, 2, 3, 1]]))
+        # Faces 012 013 023 123, 124 134 234; edges 01 02 03 12 13 23, 14 24 34.
+        for d, e, count, wanted in (
+                (3, 2, 7, [[0, 1, 2, 3], [3, 4, 5, 6]]), (3, 1, 9, [[0, 1, 2, 3, 4, 5], [3, 4, 5, 6, 7, 8]]), (3, 3, 2, [[1], [0]]),
+                (2, 3, 2, [[0], [0], [0], [0, 1], [1], [1], [1]]), (1, 3, 2, [[0], [0], [0], [0, 1], [0, 1], [0, 1], [1], [1], [1]]), (0, 3, 2, [[0], [0, 1], [0, 1], [0, 1], [1], []]),
+                (2, 1, 9, [[0, 1, 3], [0, 2, 4], [1, 2, 5], [3, 4, 5], [3, 6, 7], [4, 6, 8], [5, 7, 8]]), (2, 0, 6, [[0, 1, 2], [0, 1, 3], [0, 2, 3], [1, 2, 3], [1, 2, 4], [1, 3, 4], [2, 3, 4]]),
+                (1, 2, 7, [[0, 1], [0, 2], [1, 2], [0, 3, 4], [1, 3, 5], [2, 3, 6], [4, 5], [4, 6], [5, 6]]), (0, 2, 7, [[0, 1, 2], [0, 1, 3, 4, 5], [0, 2, 3, 4, 6], [1, 2, 3, 5, 6], [4, 5, 6], []]),
+                (2, 2, 7, [[k for k in range(7) if k != i] for i in range(7)]), (0, 0, 6, [[1, 2, 3], [0, 2, 3, 4], [0, 1, 3, 4], [0, 1, 2, 4], [1, 2, 3], []]),
+                (1, 1, 9, [[1, 2, 3, 4, 6], [0, 2, 3, 5, 7], [0, 1, 4, 5, 8], [0, 1, 4, 5, 6, 7], [0, 2, 3, 5, 6, 8], [1, 2, 3, 4, 7, 8], [0, 3, 4, 7, 8], [1, 3, 5, 6, 8], [2, 4, 5, 6, 7]])):
+            self.demand("%d→%d of two tetrahedra" % (d, e), self.plain_rows(d, e, count), wanted)
+        self.use([7] * 26)
+        self.load(rules.file_bytes(2, 6, [[0, 1, 2], [2, 0, 3], [3, 4, 0], [5, 0, 4], [1, 5, 0]]))
+        # Edges 01 02 12, 03 23, 04 34, 05 45, 15.
+        self.demand("2→1 of a wheel", self.plain_rows(2, 1, 10), [[0, 1, 2], [1, 3, 4], [3, 5, 6], [5, 7, 8], [0, 7, 9]])
+        self.use([7] * 9)
+        self.load(rules.file_bytes(1, 3, [[2, 0]]))
+        for d, e, count, wanted in ((0, 0, 3, [[2], [], [0]]), (0, 1, 1, [[0], [], [0]]), (1, 0, 3, [[0, 2]]), (1, 1, 1, [[]])):
+            self.demand("%d→%d of an interval" % (d, e), self.plain_rows(d, e, count), wanted)
+        for D in (1, 2, 3):
+            self.use([7] * 6)
+            self.load(rules.file_bytes(D, 2, []))
+            self.demand("two points and no cells", self.plain_rows(0, 0, 2), [[], []])
+            for d in range(1, D + 1):
+                self.demand("nothing but points", [self.plain(d, 0, 0, 0)[0], self.plain(0, d, 0, 0)[0], self.plain(d, d, 0, 0)[0], self.plain(0, d, 2, 0)[0]], [17, 19, 17, 17])
+
+    def plains_that_lie(self):
+        """T in books whose other relations name other vertices, edges and cells, and with N_1 less or more than the cells have: the answers are T's all the same."""
+        edges = [[0, 1, 2], [2, 3, 4]], [[0], [0], [0, 1], [1], [1]]
+        for changes in ({}, {"edge_ends": {0: [2, 3], 4: [0, 1]}}, {"edge_cells": {0: [1], 2: []}, "cell_edges": {0: [3, 4], 1: [0]}}, {"more": [([0, 2], [1])]}):
+            self.lying(**changes)
+            self.demand("T with %s" % changes, (self.plain_rows(2, 1, 5), self.plain_rows(1, 2, 2), self.plain_rows(1, 0, 4)[4]), edges + ([2, 3],))
+        self.demand("edge 5 of six is found", (self.find(1, 2, 5, 1), self.plain(1, 2, 5, 1), self.find(2, 1, 0, 5), self.plain(2, 1, 0, 5)),
+                    ((0, True, 1), (17, False), (0, False, 3), (19, False)))
+        for kept in (0, 4, 6):
+            rows = {(0, 1): [[]] * 4, (2, 0): [[0, 1, 3], [1, 2, 3]]}
+            self.use(meshes.assembled(2, {0: 4, 1: kept, 2: 2}, rows, 0))
+            self.demand("T with N_1 = %d" % kept, (self.plain_rows(0, 1, 5), self.plain_rows(2, 1, 5)), ([[0, 1], [0, 2, 3], [3, 4], [1, 2, 4]], edges[0]))
+        self.lying(cells={0: [0, 2, 3]})
+        self.demand("other cells, other edges: 02 03 23, 12 13", (self.plain_rows(2, 1, 5), self.plain_rows(1, 0, 4)), ([[0, 1, 2], [2, 3, 4]], [[0, 2], [0, 3], [2, 3], [1, 2], [1, 3]]))
+
+    def plains_refused(self, t):
+        """Each refusal and what it goes before; numbers and dimensions just over and far over."""
+        self.use([7] * 16)
+        self.load(t)
+        right, far = list(self.book), 0xFFFFFFFF
+        for d, e, i, j, number in ((3, 0, 0, 0, 12), (0, 3, 0, 0, 12), (3, 3, 9, 9, 12), (far, 0, 0, 0, 12), (0, far, 0, 0, 12), (4, 1, far, far, 12), (2, 4, 2, 0, 12), (1 << 16, 0, 0, 0, 12), (0, 1 << 31, 0, 0, 12),
+                                   (0, 2, 4, 0, 17), (1, 0, 5, 0, 17), (2, 1, 2, 0, 17), (0, 2, 4, 2, 17), (1, 1, 5, 5, 17), (2, 2, far, far, 17), (0, 0, far, 0, 17), (1, 0, 1 << 31, 0, 17), (2, 0, 1 << 16, 0, 17),
+                                   (0, 2, 3, 2, 19), (1, 0, 4, 4, 19), (2, 1, 1, 5, 19), (1, 1, 0, far, 19), (0, 0, 0, 4, 19), (2, 0, 0, 1 << 31, 19), (2, 2, 1, 1 << 16, 19), (0, 2, 3, 1, 0), (1, 0, 4, 3, 0), (2, 1, 1, 4, 0)):
+            self.demand("(%d, %d) at (%d, %d)" % (e, j, d, i), self.plain(d, e, i, j)[0], number)
+        for broken, number in (([0] + right[1:], 10), ([], 10), (right[:4], 10), (right[:3] + [1] + right[4:], 10), (right[:-1] + [9], 11), (right[:8] + [0, 0] + right[10:], 11),
+                               ([0x40020008, 16, 0, 0, 9, 0, 2, 0, 0], 11), ([0xC0000000, 1 << 12, 0, 0, 6, 0, 1], 11)):
+            self.use(broken)
+            for d, e, i, j in ((2, 0, 0, 0), (9, 9, 9, 9), (0, 0, far, far), (0, 1, 0, far)):
+                self.demand("a broken book", self.plain(d, e, i, j), (number, False))
+
     def run(self, full):
         self.examples()
         if full:
@@ -1790,23 +2037,25 @@ class Runs:
         while self.left > 0:
             self.sequences += 1
             way = self.rng.random()
-            if way < 0.27:
+            if way < 0.19:
                 self.true_run()
-            elif way < 0.45:
+            elif way < 0.33:
                 self.strange_run()
-            elif way < 0.53:
+            elif way < 0.4:
                 self.phase_run()
-            elif way < 0.58:
+            elif way < 0.45:
                 self.points_run()
-            elif way < 0.67:
+            elif way < 0.57:
                 self.room_run()
-            elif way < 0.75:
+            elif way < 0.65:
                 self.box_run()
-            elif way < 0.8:
+            elif way < 0.71:
                 self.salvage_run()
-            elif way < 0.908:
+            elif way < 0.782:
+                self.plain_run()
+            elif way < 0.903:
                 self.sheet_run()
-            elif way < 0.92:
+            elif way < 0.918:
                 self.rim_run()
             else:
                 self.broken_run()

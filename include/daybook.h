@@ -1,7 +1,7 @@
 /*
  * daybook: a day's mesh of triangles or tetrahedra, who touches whom in it, how phase closes around its faces, the
- * upright box around any part of it, and the rim of a sheet; and what can be saved of a day file that was cut short or
- * damaged.
+ * upright box around any part of it, and the rim of a sheet; a plain engine that answers from the cells alone, to hold
+ * the others to; and what can be saved of a day file that was cut short or damaged.
  *
  * A mesh has a dimension D (1, 2 or 3), N_0 vertices (at most 8,192) and N_D cells
  * (at most 4,096): intervals, triangles or tetrahedra, no two with the same vertices. An entity is a
@@ -49,9 +49,9 @@
  * daybook_row and daybook_find look at their row's own two offsets only, and say at the call which is meant.
  *
  * STACK, measured by painting it. daybook_make, daybook_ask and daybook_ask_list need up to 512 KiB
- * (417 KiB were measured), daybook_salvage and daybook_sheet up to 256 KiB (193), daybook_load and daybook_whole_box up
- * to 128 KiB (113), daybook_drop, daybook_write, daybook_euler, daybook_closures and daybook_box up to 64 KiB (57), the
- * other calls less than 16 KiB (1).
+ * (417 KiB were measured), daybook_salvage and daybook_sheet up to 256 KiB (193), daybook_load and
+ * daybook_whole_box up to 128 KiB (113), daybook_drop, daybook_write, daybook_euler, daybook_closures,
+ * daybook_box and daybook_plain up to 64 KiB (57), the other calls less than 16 KiB (1).
  *
  * OWNERSHIP. Nothing is allocated, nothing is global, nothing is kept after a call returns: the
  * book, the file, the lists and the buffers stay yours. Calls on different books may run side by side in
@@ -89,9 +89,9 @@ enum {
     DAYBOOK_ALREADY_HELD = 14,     /* the relation is held already */
     DAYBOOK_NEED_MISSING = 15,     /* something that is needed is not held */
     DAYBOOK_NOT_HELD = 16,         /* the relation is not held */
-    DAYBOOK_NO_SUCH_ENTITY = 17,   /* i is N_d or more */
+    DAYBOOK_NO_SUCH_ENTITY = 17,   /* i is N_d or more; for daybook_plain, by its own count */
     DAYBOOK_BUFFER_TOO_SHORT = 18, /* the byte buffer is shorter than the file to be written */
-    DAYBOOK_NO_SUCH_INDEX = 19,    /* j is N_e or more */
+    DAYBOOK_NO_SUCH_INDEX = 19,    /* j is N_e or more; for daybook_plain, by its own count */
     DAYBOOK_PAIRS_OFF = 20,        /* half a pair, more than DAYBOOK_MOST_PAIRS pairs, or answers that have not one place a pair */
     DAYBOOK_LIST_LENGTH = 21,      /* a lent list has not one place a vertex, edge or face, coordinates are not axes times N_0, the list of cells dropped is shorter than 2 N_D,
                                       the cells across are not 3 N_D, or a rim's map is shorter than the rim needs */
@@ -189,7 +189,7 @@ uint32_t daybook_ask_list(uint32_t *book, size_t book_len, const uint32_t *pairs
 /* Drops the relation d -> e and gives back its room: later relations move down, and the words that are freed
  * are set to 0, so that the next relation can take them. Relations that were made from it stay. daybook_row and
  * daybook_find still answer in each of them, though a row may lie at another place than before; daybook_write
- * and daybook_held_count answer as ever, and so does daybook_whole_box. daybook_make, daybook_euler,
+ * and daybook_held_count answer as ever, and so do daybook_whole_box and daybook_plain. daybook_make, daybook_euler,
  * daybook_closures, daybook_box and daybook_sheet refuse with 15 where they need what was dropped; daybook_ask makes
  * it again.
  *
@@ -213,6 +213,27 @@ uint32_t daybook_row(const uint32_t *book, size_t book_len, uint32_t d, uint32_t
  * The cost does not depend on the book's size, but for the indices read. */
 uint32_t daybook_find(const uint32_t *book, size_t book_len, uint32_t d, uint32_t e, uint32_t i, uint32_t j, uint32_t *yes, size_t *read,
                       uint32_t *key, size_t *position);
+
+/* The plain engine, to hold the others to: whether (e, j) is incident to (d, i), worked out from the cells' vertex sets each
+ * time. Where accepted, and only then, *yes is 1 or 0; the book is only read.
+ *
+ *   d > e        yes where every vertex of (e, j) is one of (d, i)
+ *   d < e        yes where every vertex of (d, i) is one of (e, j)
+ *   d = e > 0    yes where they have a vertex in common, and j is not i
+ *   d = e = 0    yes where they lie in one cell, and j is not i
+ *
+ * No relation is used but D -> 0, which is always held; d -> e need not be. Vertices and cells have the book's numbers. For
+ * 0 < d < D the entities are numbered anew: the cells are taken in ascending order, of each its vertex sets of d + 1
+ * members in lexicographic order, and a set not met before gets the next number. N_1 and N_2 of words 2 and 3 do not count
+ * here: 17 and 19 go by the number of sets that the cells have.
+ *
+ * In a book that these calls alone have written, drops among them, the answer is yes exactly where j is in row i of
+ * d -> e, while that is held. In one that others have written it goes by the cells, and daybook_find by the row. The whole
+ * book is checked at each call, and where d or e lies between 0 and D those entities are numbered; daybook_find is the
+ * quicker one.
+ * Refusals: 10, 11 with *key and *position, 12, 17, 19. */
+uint32_t daybook_plain(const uint32_t *book, size_t book_len, uint32_t d, uint32_t e, uint32_t i, uint32_t j, uint32_t *yes, uint32_t *key,
+                       size_t *position);
 
 /* Writes the day file of the book's mesh, each cell's vertices ascending, and its length to
  * *length where accepted. Later bytes stay as they were. Refusals: 10, 11 with *key and *position, 18. */

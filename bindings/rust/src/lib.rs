@@ -1,10 +1,11 @@
 //! Safe calls of daybook: a day's mesh of triangles or tetrahedra in a book of lent words, who touches whom in it, and the rim of
-//! a sheet; and what can be saved of a day file that was cut short or damaged.
+//! a sheet; a plain engine that answers from the cells alone, to hold the others to; and what can be saved of a day file that was
+//! cut short or damaged.
 //!
 //! A book is a slice of `u32` that you lend to each call but `salvage`; `include/daybook.h` says what stands in it. Nothing is
 //! allocated and nothing is kept. A refusal alters nothing that was lent. `make`, `ask` and `ask_list` need up to
-//! 512 KiB of stack, `salvage` and `sheet` up to 256 KiB, `load` and `whole_box` up to 128 KiB, `drop_relation`, `write`, `euler`,
-//! `closures` and `box_of` up to 64 KiB.
+//! 512 KiB of stack, `salvage` and `sheet` up to 256 KiB, `load` and `whole_box` up to 128 KiB, `drop_relation`, `write`,
+//! `euler`, `closures`, `box_of` and `plain` up to 64 KiB.
 //!
 //! ```no_run
 //! # let file: Vec<u8> = Vec::new();
@@ -44,6 +45,17 @@ mod c {
             j: u32,
             yes: *mut u32,
             read: *mut usize,
+            key: *mut u32,
+            position: *mut usize,
+        ) -> u32;
+        pub fn daybook_plain(
+            book: *const u32,
+            book_len: usize,
+            d: u32,
+            e: u32,
+            i: u32,
+            j: u32,
+            yes: *mut u32,
             key: *mut u32,
             position: *mut usize,
         ) -> u32;
@@ -257,11 +269,11 @@ pub enum Refusal {
     NeedMissing,
     /// 16: the relation is not held.
     NotHeld,
-    /// 17: i is N_d or more.
+    /// 17: i is N_d or more; for `plain`, by its own count.
     NoSuchEntity,
     /// 18: the byte buffer is shorter than the file to be written.
     BufferTooShort,
-    /// 19: j is N_e or more.
+    /// 19: j is N_e or more; for `plain`, by its own count.
     NoSuchIndex,
     /// 20: more than `MOST_PAIRS` pairs, or answers that have not one place a pair.
     PairsOff,
@@ -489,6 +501,30 @@ pub fn find(book: &[u32], d: u32, e: u32, i: u32, j: u32) -> Result<Found, Refus
     // SAFETY: as in `load`.
     let number = unsafe { c::daybook_find(book.as_ptr(), book.len(), d, e, i, j, &mut yes, &mut read, &mut place.key, &mut place.position) };
     place.answer(book, number, Found { yes: yes == 1, read })
+}
+
+/// The plain engine, to hold the others to: whether (e, j) is incident to (d, i), worked out from the cells' vertex sets each time. No
+/// relation is used but D→0; d→e need not be held. For d > e it is whether every vertex of (e, j) is one of (d, i), for d < e the
+/// reverse, for d = e > 0 whether they have a vertex in common and j is not i, and for d = e = 0 whether they lie in one cell and j
+/// is not i.
+///
+/// Vertices and cells have the book's numbers; edges and faces below D are numbered anew from the cells, as `make` numbers them, and
+/// 17 and 19 go by the number that the cells have, not by N_1 and N_2 of the book. In a book that these calls alone have written,
+/// drops among them, it says yes exactly where j is in row i of d→e, while that is held; in one that others have written it goes by
+/// the cells, and `find` by the row. The whole book is checked at each call, and where d or e lies between 0 and D those entities are
+/// numbered; `find` is the quicker one.
+///
+/// ```no_run
+/// # let book = vec![0; 500];
+/// let inside = daybook::plain(&book, 2, 1, 0, 4)?; // whether edge 4 is one of cell 0, where D is 2
+/// assert_eq!(inside, daybook::find(&book, 2, 1, 0, 4)?.yes);
+/// # Ok::<(), daybook::Refusal>(())
+/// ```
+pub fn plain(book: &[u32], d: u32, e: u32, i: u32, j: u32) -> Result<bool, Refusal> {
+    let (mut yes, mut place) = (0, Place::default());
+    // SAFETY: as in `load`.
+    let number = unsafe { c::daybook_plain(book.as_ptr(), book.len(), d, e, i, j, &mut yes, &mut place.key, &mut place.position) };
+    place.answer(book, number, yes == 1)
 }
 
 /// Writes the day file of the book's mesh and gives its length; later bytes stay as they were.

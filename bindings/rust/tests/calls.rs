@@ -565,6 +565,132 @@ fn a_rim_has_at_most_4096_edges() {
     assert_eq!(Refusal::LongRim.to_string(), "refused 29");
 }
 
+/// The rows of d→e as plain answers give them, for all j up to the first that is none.
+fn plain_rows(book: &[u32], d: u32, e: u32) -> Vec<Vec<u32>> {
+    let row = |i: u32| -> Result<Vec<u32>, Refusal> {
+        let mut yes = Vec::new();
+        for j in 0.. {
+            match daybook::plain(book, d, e, i, j) {
+                Ok(true) => yes.push(j),
+                Ok(false) => (),
+                Err(Refusal::NoSuchIndex) => break,
+                Err(refusal) => return Err(refusal),
+            }
+        }
+        Ok(yes)
+    };
+    (0..).map(row).take_while(|row| *row != Err(Refusal::NoSuchEntity)).map(Result::unwrap).collect()
+}
+
+/// The rows of T: its edges are 0 1, 0 3, 1 3, 1 2 and 2 3.
+fn rows_of_t() -> [((u32, u32), Vec<Vec<u32>>); 9] {
+    [
+        ((0, 0), vec![vec![1, 3], vec![0, 2, 3], vec![1, 3], vec![0, 1, 2]]),
+        ((0, 1), vec![vec![0, 1], vec![0, 2, 3], vec![3, 4], vec![1, 2, 4]]),
+        ((0, 2), vec![vec![0], vec![0, 1], vec![1], vec![0, 1]]),
+        ((1, 0), vec![vec![0, 1], vec![0, 3], vec![1, 3], vec![1, 2], vec![2, 3]]),
+        ((1, 1), vec![vec![1, 2, 3], vec![0, 2, 4], vec![0, 1, 3, 4], vec![0, 2, 4], vec![1, 2, 3]]),
+        ((1, 2), vec![vec![0], vec![0], vec![0, 1], vec![1], vec![1]]),
+        ((2, 0), vec![vec![0, 1, 3], vec![1, 2, 3]]),
+        ((2, 1), vec![vec![0, 1, 2], vec![2, 3, 4]]),
+        ((2, 2), vec![vec![1], vec![0]]),
+    ]
+}
+
+#[test]
+fn plain_answers_are_the_rows() {
+    let book = all_nine();
+    for ((d, e), rows) in rows_of_t() {
+        assert_eq!(plain_rows(&book, d, e), rows, "{d}→{e}");
+        for (i, row) in (0..).zip(&rows) {
+            assert_eq!(daybook::row(&book, d, e, i), Ok(&row[..]));
+        }
+    }
+}
+
+#[test]
+fn plain_answers_need_the_cells_alone() {
+    let mut book = loaded(122);
+    for ((d, e), rows) in rows_of_t() {
+        assert_eq!(plain_rows(&book[..14], d, e), rows, "{d}→{e} of the cells alone");
+    }
+    (0..9).try_for_each(|k| daybook::ask(&mut book, k / 3, k % 3)).unwrap();
+    for (d, e) in [(1, 0), (0, 0), (2, 2), (0, 1), (1, 1), (1, 2), (2, 1), (0, 2)] {
+        daybook::drop_relation(&mut book, d, e).unwrap();
+        for ((d, e), rows) in rows_of_t() {
+            assert_eq!(plain_rows(&book, d, e), rows, "{d}→{e} after a drop");
+        }
+    }
+    assert_eq!(book[..14], loaded(14));
+}
+
+#[test]
+fn plain_answers_number_faces_too() {
+    let mut book = [7; 200];
+    // two tetrahedra, 3 1 0 2 and 4 2 3 1, and vertex 5, which neither has
+    let file = [0xC0, 0x06, 0x00, 0x10, 0x00, 0x18, 0x00, 0x40, 0x00, 0x00, 0x20, 0x02, 0x00, 0x08, 0x00, 0x60, 0x01];
+    daybook::load(&file, &mut book).unwrap();
+    assert_eq!(book[..16], [0xC0060010, 1 << 12, 0, 0, 16, 0, 4, 8, 0, 1, 2, 3, 1, 2, 3, 4]);
+    // its faces are 012 013 023 123 and 124 134 234, its edges 01 02 03 12 13 23 and 14 24 34
+    let edges = [[0, 1, 3], [0, 2, 4], [1, 2, 5], [3, 4, 5], [3, 6, 7], [4, 6, 8], [5, 7, 8]];
+    assert_eq!(plain_rows(&book, 2, 1), edges);
+    assert_eq!(plain_rows(&book, 3, 2), [[0, 1, 2, 3], [3, 4, 5, 6]]);
+    assert_eq!(plain_rows(&book, 2, 3), [vec![0], vec![0], vec![0], vec![0, 1], vec![1], vec![1], vec![1]]);
+    assert_eq!(plain_rows(&book, 1, 1)[0], [1, 2, 3, 4, 6]);
+    assert_eq!(plain_rows(&book, 0, 0)[4..], [vec![1, 2, 3], vec![]]);
+    assert_eq!(plain_rows(&book, 0, 2)[5], []);
+    daybook::ask(&mut book, 2, 1).unwrap();
+    for (i, row) in (0..).zip(&edges) {
+        assert_eq!(daybook::row(&book, 2, 1, i), Ok(&row[..]));
+    }
+}
+
+#[test]
+fn plain_answers_go_by_the_cells_in_a_book_that_lies() {
+    let mut lying = all_nine();
+    lying[56] = 2; // 1→0 has 2 3 for its edge 2, which is 1 3
+    lying[111] = 1; // 2→1 has edge 1 for edge 2 of cell 1
+    assert_eq!(daybook::find(&lying, 2, 1, 1, 1), Ok(Found { yes: true, read: 1 }));
+    assert_eq!(daybook::plain(&lying, 2, 1, 1, 1), Ok(false));
+    for ((d, e), rows) in rows_of_t() {
+        assert_eq!(plain_rows(&lying, d, e), rows, "{d}→{e}");
+    }
+    for edges in [5, 6] {
+        let mut book = loaded(60);
+        daybook::ask(&mut book, 0, 1).unwrap();
+        daybook::drop_relation(&mut book, 1, 0).unwrap();
+        book[2] = edges; // 0→1 keeps N_1, and T has 5 edges
+        let wanted = if edges == 5 { Err(Refusal::NoSuchIndex) } else { Ok(Found { yes: false, read: 2 }) };
+        assert_eq!(daybook::find(&book, 0, 1, 0, 5), wanted);
+        assert_eq!(daybook::plain(&book, 0, 1, 0, 5), Err(Refusal::NoSuchIndex));
+        assert_eq!(daybook::plain(&book, 1, 0, 5, 0), Err(Refusal::NoSuchEntity));
+        assert_eq!(plain_rows(&book, 1, 2).len(), 5);
+    }
+}
+
+#[test]
+fn plain_answers_are_refused() {
+    let mut book = loaded(20);
+    for (d, e, i, j, refusal) in [
+        (3, 0, 9, 9, Refusal::DimensionOver),
+        (0, 3, 0, 0, Refusal::DimensionOver),
+        (u32::MAX, u32::MAX, 0, 0, Refusal::DimensionOver),
+        (0, 1, 4, 0, Refusal::NoSuchEntity),
+        (1, 0, 5, 4, Refusal::NoSuchEntity),
+        (2, 2, u32::MAX, u32::MAX, Refusal::NoSuchEntity),
+        (0, 1, 3, 5, Refusal::NoSuchIndex),
+        (1, 0, 4, 4, Refusal::NoSuchIndex),
+        (2, 2, 1, 2, Refusal::NoSuchIndex),
+    ] {
+        assert_eq!(daybook::plain(&book, d, e, i, j), Err(refusal));
+    }
+    book[19] = 1;
+    assert_eq!(daybook::plain(&book, 9, 9, 9, 9), Err(Refusal::RowsBroken { key: FREE_WORDS, position: Position::FreeWord(5) }));
+    book[2] = 1;
+    assert_eq!(daybook::plain(&book, 2, 0, 0, 0), Err(Refusal::FrameBroken));
+    assert_eq!(daybook::plain(&[], 9, 9, 9, 9), Err(Refusal::FrameBroken));
+}
+
 #[test]
 fn books_and_numbers_are_refused() {
     let mut book = loaded(200);
@@ -617,6 +743,7 @@ fn a_refusal_says_where_the_book_is_broken() {
         assert_eq!(daybook::box_of(&book, &[], 9, 9, 9), Err(refusal));
         assert_eq!(daybook::whole_box(&book, &[], 9), Err(refusal));
         assert_eq!(sheet(&book, [1; 4]), Err(refusal));
+        assert_eq!(daybook::plain(&book, 9, 9, 9, 9), Err(refusal));
         assert_eq!(refusal.to_string(), text);
     }
 }

@@ -8,7 +8,7 @@ use lib.ListN.{length, getD, set, replicate, length-set, length-replicate}
 use lib.Seq.{getD-set-same, getD-set-other}
 use Rattle.rules.specs.Lists.{anyOf, same}
 use Rattle.rules.specs.Made.{met}
-use Rattle.repeats.proofs.Chained.{chains-none, chains-alike, chains-more}
+use Rattle.rules.proofs.Chained.{chains-none, chains-alike, chains-more}
 use Rattle.repeats.proofs.Walked.{among-newest}
 use Rattle.building.specs.Sets.{entity, entities, Chained}
 use Rattle.building.proofs.Entities.{entities-front, entities-more, entity-only}

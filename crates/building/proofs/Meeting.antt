@@ -22,7 +22,8 @@ use Rattle.relations.proofs.Placed.{part-at, part-length, rows-fit}
 use Rattle.building.specs.Sets.{padded, entities, Chained}
 use Rattle.building.specs.Cells.{Between, Corners, Candidates}
 use Rattle.building.proofs.Entities.{entities-none}
-use Rattle.building.proofs.Padding.{metAll-last, built-last, padded-all, padded-length, padded-first}
+use Rattle.rules.proofs.Built.{built-last}
+use Rattle.building.proofs.Padding.{metAll-last, padded-all, padded-length, padded-first}
 
 -- ---- the candidates of one cell
 -- j candidates are met after the n entities of sets₀

@@ -12,16 +12,11 @@ use Rattle.rules.proofs.Tests.{agree, same-is, same-refl}
 use Rattle.rules.proofs.Numbered.{any-map, any-agree}
 use Rattle.building.specs.Sets.{padded}
 
--- one candidate more, one cell more
+-- one candidate more
 pub metAll-last : (es ss : List (List ℕ)) (s : List ℕ) → metAll es (ss ++ (s ∷ [])) ≡ met (metAll es ss) s
 unfolding metAll
 metAll-last es [] s = refl
 metAll-last es (t ∷ ts) s = metAll-last (met es t) ts s
-
-pub built-last : (d : ℕ) (es cs : List (List ℕ)) (c : List ℕ) → built d es (cs ++ (c ∷ [])) ≡ metAll (built d es cs) (choose (d + 1) c)
-unfolding built
-built-last d es [] c = refl
-built-last d es (b ∷ bs) c = built-last d (metAll es (choose (d + 1) b)) bs c
 
 module _ (d : ℕ) where
   padded-same : (s t : List ℕ) → same (padded d s) (padded d t) ≡ same s t

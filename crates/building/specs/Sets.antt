@@ -4,7 +4,7 @@ use mathlib.Core.List.{List, [], _∷_, _++_, map}
 use Prim.Native.Nat.{ℕ, _+_, _-_, _*_}
 use lib.ListN.{length, getD, take, replicate}
 use Rattle.rules.specs.Lists.{upTo}
-use Rattle.repeats.specs.Chains.{Chains}
+use Rattle.rules.specs.Chains.{Chains}
 
 -- a set of d + 1 vertices as three words: an edge has a 0 behind it
 unfoldable pub padded : ℕ → List ℕ → List ℕ

@@ -12,8 +12,8 @@ ghost use lib.Dec.{eqb};
 ghost use lib.ListN.{length, getD, take};
 ghost use Rattle.rules.specs.Lists.{upTo, anyOf, same};
 ghost use Rattle.rules.specs.Made.{met, metAll, built};
+ghost use Rattle.rules.specs.Chains.{Links};
 ghost use Rattle.relations.specs.Words.{rowAt};
-ghost use Rattle.repeats.specs.Chains.{Links};
 ghost use Rattle.building.specs.Sets.{padded, entity, entities, lowest, Chained};
 ghost use Rattle.building.specs.Cells.{Between, Corners, Candidates};
 

@@ -5,7 +5,8 @@
 // 6 + N_D + N_D (D + 1) words, and each relation more takes N_d + 1 words and one for each index. A
 // call that does not fit is refused and alters nothing. `salvage` goes from a day file to a day
 // file: it keeps every whole cell that `load` would not fault, and lists the others. `sheet` gives the
-// cell across each edge of each cell of a sheet, and its rim as a day file.
+// cell across each edge of each cell of a sheet, and its rim as a day file. `plain` says whether two
+// entities are incident, from the cells' vertex sets alone: a second opinion beside the relations.
 //
 // Word 0 is the file's first 32 bits, word 1 the sum of 2^(4d+e) over the relations d→e held, word
 // 1 + d for d = 1, 2 is N_d while d < D and some relation held names d, else 0, word 4 is the used
@@ -32,15 +33,17 @@
 // | 11  | the row rule is broken; for row and find, the row's own     | all but load, ask_list, |
 // |     | offsets alone; with where: a key and a position             | salvage, held_count     |
 // | 12  | d or e is over D; for close, D is 1                         | make, ask, drop, row,   |
-// |     |                                                             | find, close, box_of     |
+// |     |                                                             | find, close, box_of,    |
+// |     |                                                             | plain                   |
 // | 13  | the used length afterwards would pass the book's length     | load, make, ask         |
 // | 14  | the relation is held already                                | make                    |
 // | 15  | something that is needed is not held                        | make, euler, close,     |
 // |     |                                                             | box_of, sheet           |
 // | 16  | the relation is not held                                    | drop, row, find         |
-// | 17  | i is N_d or more                                            | row, find, box_of       |
+// | 17  | i is N_d or more; for plain, by its own counts              | row, find, box_of,      |
+// |     |                                                             | plain                   |
 // | 18  | the byte buffer is shorter than the file to be written      | write, salvage, sheet   |
-// | 19  | j is N_e or more                                            | find                    |
+// | 19  | j is N_e or more; for plain, by its own counts              | find, plain             |
 // | 20  | half a pair, over 16 pairs, or not one place a pair         | ask_list                |
 // | 21  | a lent list is not one place a vertex, edge or face; for    | close, box_of,          |
 // |     | the boxes, not axes times N_0 long; for salvage, it is      | whole_box, salvage,     |
@@ -89,6 +92,8 @@ pub use lists::ask_list;
 pub use loading::Loaded;
 pub use loading::load;
 pub use makes::make;
+pub use plain::WorkedOut;
+pub use plain::plain;
 pub use reading::Counted;
 pub use reading::EulerNumber;
 pub use reading::Found;

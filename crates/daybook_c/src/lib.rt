@@ -2,11 +2,13 @@
 mod boxed;
 mod salvaged;
 mod sheeted;
+mod worked;
 
 pub use boxed::daybook_box;
 pub use boxed::daybook_whole_box;
 pub use salvaged::daybook_salvage;
 pub use sheeted::daybook_sheet;
+pub use worked::daybook_plain;
 ghost use mathlib.Core.Path.{_≡_};
 ghost use mathlib.Core.Bool.{cond, _||_};
 ghost use Prim.Native.Nat.{_+_, _<_};

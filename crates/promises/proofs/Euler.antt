@@ -13,6 +13,7 @@ use Rattle.rules.specs.Lists.{membersBelow}
 use Rattle.rules.specs.Book.{count, key, held, rowsOf}
 use Rattle.rules.specs.Calls.{eulerNumber, alternating, usedVertices, eulerOf}
 use Rattle.rules.specs.Truth.{Mesh, entities, number, usedIn, trueEuler}
+use Rattle.rules.specs.Plain.{meshIn}
 use Rattle.rules.proofs.Compared.{lt-or-le}
 use Rattle.rules.proofs.Needs.{key-div, key-mod}
 use Rattle.rules.proofs.Members.{members-same, members-all}
@@ -40,6 +41,11 @@ module _ (m : Mesh) (ws : List ℕ) (k : Kept m ws) where
   pub used-true : usedVertices ws ≡ usedIn m
   unfolding usedVertices usedIn
   used-true = rw (kept-dim m ws k, cells-true, vertices-true)
+
+  -- so the mesh of the book's cells is the mesh
+  pub mesh-true : meshIn ws ≡ m
+  unfolding meshIn
+  mesh-true = rw (kept-dim m ws k, cells-true, vertices-true)
 
 -- ---- the counts that the Euler number is made from
 module _ (m : Mesh) (ws : List ℕ) (k : Kept m ws) (z : eulerNumber ws ≡ 0) where

@@ -4,6 +4,7 @@ pub mod Euler
 pub mod SheetTrue
 pub mod SheetPlanned
 pub mod Planned
+pub mod Plain
 pub mod RoundTrip
 pub mod Lying
 pub mod Run

@@ -17,6 +17,7 @@ use Rattle.rules.specs.Phases.{counted}
 use Rattle.rules.specs.Closures.{lengthsRight, closeRules, closeNumber}
 use Rattle.rules.specs.Boxes.{coordinateRules, boxRules, boxNumber, wholeRules, wholeNumber}
 use Rattle.rules.specs.Truth.{Mesh, number, trueBook}
+use Rattle.rules.specs.Plain.{plainRules, plainNumber}
 use Rattle.rules.specs.Steps.{maskWith}
 use Rattle.rules.proofs.Tests.{and-off}
 use Rattle.rules.proofs.Masks.{masks-equal}
@@ -33,11 +34,11 @@ use Rattle.rules.proofs.TrueBook.{book-mask, book-dim, true-take, count-first}
 use Rattle.rules.proofs.TrueMake.{true-added}
 use Rattle.rules.proofs.TrueAsk.{true-asked}
 use Rattle.rules.proofs.TrueFound.{none-differs}
-use Rattle.promises.specs.Plan.{wordsFor, makePlan, askPlan, maskAfter, dropPlan, rowPlan, findPlan, writePlan, eulerPlan, closePlan, coordinatePlan, boxPlan, wholePlan}
+use Rattle.promises.specs.Plan.{wordsFor, makePlan, askPlan, maskAfter, dropPlan, rowPlan, findPlan, writePlan, eulerPlan, closePlan, coordinatePlan, boxPlan, wholePlan, plainPlan}
 use Rattle.promises.specs.Demand.{Holds, Planned}
 use Rattle.promises.proofs.Kept.{Kept, kept-held, kept-dim, kept-mask, kept-right, kept-alike, reached-kept}
 use Rattle.promises.proofs.DemandThree.{first-count, second-count}
-use Rattle.promises.proofs.Euler.{vertices-true}
+use Rattle.promises.proofs.Euler.{vertices-true, mesh-true}
 use Rattle.promises.proofs.SheetPlanned.{sheet-planned}
 
 -- ---- a kept book
@@ -230,6 +231,11 @@ module _ (m : Mesh) (ws : List ℕ) (k : Kept m ws) where
   unfolding wholeNumber wholeRules wholePlan coordinateRules coordinatePlan firstBroken
   whole-planned coordinates axes = rw (frame, rows, vertices)
 
+  -- a plain engine
+  pub plain-planned : (d e i j : ℕ) → plainNumber ws d e i j ≡ plainPlan m d e i j
+  unfolding plainNumber plainRules plainPlan firstBroken
+  plain-planned d e i j = rw (frame, rows, kept-dim m ws k, mesh-true m ws k)
+
   pub same-mask : (mask : ℕ) → Holds ws mask → mask ≡ k .mask
   same-mask mask h = masks-equal 16 mask (k .mask) (h .small) (k .proper .small) (λ j l. h .names j l ∙ kept-held m ws k j)
 
@@ -237,4 +243,4 @@ pub planned : Planned
 planned m ws r mask h d e i j bs counts closures steps bytes coordinates axes acrosses rim vertices edges =
     let k = reached-kept m ws r in
     rw (same-mask m ws k mask h)
-    (make-planned m ws k d e, ask-planned m ws k d e, drop-planned m ws k d e, row-planned m ws k d e i, find-planned m ws k d e i j, write-planned m ws k bs, euler-planned m ws k, held-planned m ws k, close-planned m ws k counts closures steps bytes, box-planned m ws k coordinates axes d i, whole-planned m ws k coordinates axes, sheet-planned m ws r acrosses rim vertices edges)
+    (make-planned m ws k d e, ask-planned m ws k d e, drop-planned m ws k d e, row-planned m ws k d e i, find-planned m ws k d e i j, write-planned m ws k bs, euler-planned m ws k, held-planned m ws k, close-planned m ws k counts closures steps bytes, box-planned m ws k coordinates axes d i, whole-planned m ws k coordinates axes, sheet-planned m ws r acrosses rim vertices edges, plain-planned m ws k d e i j)

@@ -14,9 +14,10 @@ use Rattle.rules.specs.Calls.{loadNumber, loadWords, makeNumber, makeWords, ask
 use Rattle.rules.specs.Closures.{closeNumber}
 use Rattle.rules.specs.Boxes.{boxNumber, wholeNumber}
 use Rattle.rules.specs.Sheet.{sheetAnswer, sheetNumber}
+use Rattle.rules.specs.Plain.{plainNumber}
 use Rattle.rules.specs.Truth.{Mesh, meshOf, number, incident, trueRows, trueEuler, trueBook}
 use Rattle.rules.specs.Sequence.{State, askList, after, afterAll, asksOf, Reached}
-use Rattle.promises.specs.Plan.{wordsFor, makePlan, askPlan, answersPlan, rowPlan, findPlan, writePlan, eulerPlan, closePlan, boxPlan, wholePlan, dropPlan}
+use Rattle.promises.specs.Plan.{wordsFor, makePlan, askPlan, answersPlan, rowPlan, findPlan, writePlan, eulerPlan, closePlan, boxPlan, wholePlan, dropPlan, plainPlan}
 use Rattle.promises.specs.SheetPlan.{sheetPlan}
 
 -- ==== demand 3, part by part
@@ -77,7 +78,7 @@ Alike = (m : Mesh) (ws vs : List ℕ) → Reached m ws → Reached m vs → leng
 -- the frame rule and the row rule hold, and no call gives 10, 11 or 25
 abbrev pub NothingElse : Type 0
 NothingElse = (m : Mesh) (ws : List ℕ) → Reached m ws → (frameRight ws ≡ true) × (rowsRight ws ≡ true) × ((d e i j : ℕ) (bs : List ℕ) (counts : List ℤ) (closures steps bytes : ℕ) (coordinates : List Float) (axes acrosses rim vertices edges : ℕ)
-    → allOf (λ n. not (eqb n 10 || eqb n 11 || eqb n 25)) (makeNumber ws d e ∷ askNumber ws d e ∷ dropNumber ws d e ∷ rowNumber ws d e i ∷ findNumber ws d e i j ∷ writeNumber ws bs ∷ eulerNumber ws ∷ heldNumber ws ∷ closeNumber ws counts closures steps bytes ∷ boxNumber ws coordinates axes d i ∷ wholeNumber ws coordinates axes ∷ sheetNumber ws acrosses rim vertices edges ∷ []) ≡ true)
+    → allOf (λ n. not (eqb n 10 || eqb n 11 || eqb n 25)) (makeNumber ws d e ∷ askNumber ws d e ∷ dropNumber ws d e ∷ rowNumber ws d e i ∷ findNumber ws d e i j ∷ writeNumber ws bs ∷ eulerNumber ws ∷ heldNumber ws ∷ closeNumber ws counts closures steps bytes ∷ boxNumber ws coordinates axes d i ∷ wholeNumber ws coordinates axes ∷ sheetNumber ws acrosses rim vertices edges ∷ plainNumber ws d e i j ∷ []) ≡ true)
 
 -- nor does any answer of a list of asks
 abbrev pub ListedFine : Type 0
@@ -103,6 +104,7 @@ Planned = (m : Mesh) (ws : List ℕ) → Reached m ws → (mask : ℕ) → Holds
     × (boxNumber ws coordinates axes d i ≡ boxPlan m mask coordinates axes d i)
     × (wholeNumber ws coordinates axes ≡ wholePlan m coordinates axes)
     × (sheetAnswer ws acrosses rim vertices edges ≡ sheetPlan m mask acrosses rim vertices edges)
+    × (plainNumber ws d e i j ≡ plainPlan m d e i j)
 
 -- and so is each answer of a list of asks
 abbrev pub ListPlanned : Type 0

@@ -5,3 +5,4 @@ pub mod Faces
 pub mod Boxes
 pub mod Salvages
 pub mod Sheets
+pub mod Plain

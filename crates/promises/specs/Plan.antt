@@ -102,3 +102,8 @@ boxPlan m mask coordinates axes d i =
 -- the box of the whole mesh: as the lent coordinates
 unfoldable pub wholePlan : Mesh → List Float → ℕ → ℕ
 wholePlan m coordinates axes = firstBroken (coordinatePlan m coordinates axes) 0
+
+-- a plain engine: 12 if d or e is over D, else 17 if there is no entity (d, i), else 19 if there is no entity (e, j), else 0, whatever is held
+unfoldable pub plainPlan : Mesh → ℕ → ℕ → ℕ → ℕ → ℕ
+plainPlan m d e i j =
+    firstBroken (rule (ltb (m .dims) d || ltb (m .dims) e) 12 ∷ rule (leb (number m d) i) 17 ∷ rule (leb (number m e) j) 19 ∷ []) 0

@@ -1,4 +1,4 @@
-// Calls that leave the book as it is: Row, Find, Write, the Euler number and the held count. `daybook` has them beside Load, Make, Ask, the list of asks, Drop, phase closures, boxes, salvage and the sheet profile.
+// Calls that leave the book as it is: Row, Find, Write, the Euler number and the held count. `daybook` has them beside Load, Make, Ask, the list of asks, Drop, phase closures, boxes, salvage, the sheet profile and the plain engine.
 mod answers;
 mod finds;
 mod numbers;

@@ -1,5 +1,4 @@
 pub mod Mixed
-pub mod Chained
 pub mod Walked
 pub mod Among
 pub mod Parts

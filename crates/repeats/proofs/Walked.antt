@@ -9,16 +9,11 @@ use native.Mathlib.Numerals.{add-one}
 use native.Mathlib.Omega.{arith}
 use lib.ListN.{getD}
 use Rattle.rules.specs.Lists.{upTo, anyOf, same}
-use Rattle.rules.proofs.Tests.{cases, any-of}
+use Rattle.rules.specs.Chains.{Newest, Links}
+use Rattle.rules.proofs.Tests.{cases, any-of, any-last}
 use Rattle.rules.proofs.Joined.{map-last}
-use Rattle.repeats.specs.Chains.{Newest, Links}
 
--- one more at the end, that passes the test or not
-any-without {ℓ} : {A : Type ℓ} (p : A → Bool) (x : A) → p x ≡ false → (xs : List A) → anyOf p (xs ++ (x ∷ [])) ≡ anyOf p xs
-unfolding anyOf
-any-without p x e [] = rw e
-any-without p x e (y ∷ ys) = rw (any-without p x e ys)
-
+-- one more at the end that passes the test
 any-with {ℓ} : {A : Type ℓ} (p : A → Bool) (x : A) → p x ≡ true → (xs : List A) → anyOf p (xs ++ (x ∷ [])) ≡ true
 any-with p x e xs = any-of p (Memᴰ·append-right xs (here refl)) e
 
@@ -35,7 +30,7 @@ module _ (row : ℕ → List ℕ) (s : List ℕ) where
   among-found n h = rw (map-last row n) (any-with (same s) (row n) h (map row (upTo n)))
 
   among-passed : (n : ℕ) → same s (row n) ≡ false → among row s (n + 1) ≡ among row s n
-  among-passed n h = rw (map-last row n) (any-without (same s) (row n) h (map row (upTo n)))
+  among-passed n h = rw (map-last row n) (any-last (same s) (map row (upTo n)) (row n) h)
 
   module _ {b : ℕ → ℕ} {v : ℕ} (o : Only b v row s) where
     -- an entry of another bucket has another row

@@ -4,8 +4,8 @@ ghost use mathlib.Core.Bool.{true, false};
 ghost use Prim.Native.Nat.{ℕ, suc, _+_, _*_, _≤_, _<_};
 ghost use lib.ListN.{length};
 ghost use Rattle.rules.specs.Lists.{anyOf, same, firstRepeated};
+ghost use Rattle.rules.specs.Chains.{Links, Chains};
 ghost use Rattle.repeats.specs.Rows.{rowAt, rowsIn, bucketOf, bucketAt};
-ghost use Rattle.repeats.specs.Chains.{Links, Chains};
 
 // Row i of the words, `size` words to a row.
 fn row_at(words: &[u32], size: usize, i: usize) -> &[u32]

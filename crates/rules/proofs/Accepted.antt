@@ -19,6 +19,8 @@ use Rattle.rules.specs.Phases.{counted}
 use Rattle.rules.specs.Closures.{lengthsRight, closeRules, closeNumber}
 use Rattle.rules.specs.Boxes.{coordinateRules, boxRules, boxNumber, wholeRules, wholeNumber}
 use Rattle.rules.specs.Salvage.{Headed, savedLength, salvageRules, salvageNumber}
+use Rattle.rules.specs.Truth.{number, incident}
+use Rattle.rules.specs.Plain.{meshIn, plainRules, plainNumber, plainYes}
 use Rattle.rules.proofs.Tests.{left, right, or-cases, neither, none-of}
 use Rattle.rules.proofs.Keep.{upTo-of}
 
@@ -447,3 +449,36 @@ unfolding salvageNumber salvageRules firstBroken
 salvage-accepts f bytes list a =
     let h = a .head in
     rw (le-ltb (length f) 4 (h .long), ne-eqb (fileDim f) 0 (omega (arith, h .low)), le-ltb 8192 (fileVertices f) (h .vertices), le-ltb 4096 (fileCells f) (h .cells), le-ltb (length bytes) (savedLength f) (a .room), le-ltb (length list) (2 * fileCells f) (a .places))
+
+-- ---- a plain engine
+pub record Plains (ws : List ℕ) (d e i j : ℕ) : Type 0 where
+  pub frame : frameRight ws ≡ true
+  pub rows : rowsRight ws ≡ true
+  pub first : d ≤ dim ws
+  pub second : e ≤ dim ws
+  pub below : i < number (meshIn ws) d
+  pub other : j < number (meshIn ws) e
+
+pub plains : (ws : List ℕ) (d e i j : ℕ) → plainNumber ws d e i j ≡ 0 → Plains ws d e i j
+unfolding plainNumber plainRules allOf
+plains ws d e i j z =
+    let r = unbroken (plainRules ws d e i j) refl z in
+    let n : not (ltb (dim ws) d || ltb (dim ws) e) ≡ true = search (left, right) depth 9 in
+    let o = neither (ltb (dim ws) d) (ltb (dim ws) e) n in
+    record {
+      frame = search (left, right, not-true, not-false) depth 9;
+      rows = search (left, right, not-true, not-false) depth 9;
+      first = ltb-false (dim ws) d (o .0);
+      second = ltb-false (dim ws) e (o .1);
+      below = search (left, right, not-true, leb-false) depth 9;
+      other = search (left, right, not-true, leb-false) depth 9;
+    }
+
+-- what comes with its number
+pub plain-accepted : (ws : List ℕ) (d e i j : ℕ) → plainNumber ws d e i j ≡ 0 → plainYes ws d e i j ≡ incident (meshIn ws) d e i j
+unfolding plainYes
+plain-accepted ws d e i j z = rw z
+
+pub plain-refused : (ws : List ℕ) (d e i j : ℕ) → 0 < plainNumber ws d e i j → plainYes ws d e i j ≡ false
+unfolding plainYes
+plain-refused ws d e i j l = rw (ne-eqb (plainNumber ws d e i j) 0 (omega arith))

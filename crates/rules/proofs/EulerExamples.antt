@@ -16,7 +16,7 @@ unfoldable pub tetrahedron : ℕ → List ℕ
 tetrahedron n = 0xC0 ∷ n ∷ 0x00 ∷ 0x08 ∷ 0x00 ∷ 0x18 ∷ 0x00 ∷ 0x40 ∷ 0x00 ∷ 0x00 ∷ 0x20 ∷ []
 
 -- two intervals, 0 2 and 3 2, and n points
-unfoldable intervals : ℕ → List ℕ
+unfoldable pub intervals : ℕ → List ℕ
 intervals n = 0x40 ∷ n ∷ 0x00 ∷ 0x10 ∷ 0x00 ∷ 0x00 ∷ 0x00 ∷ 0x80 ∷ 0x06 ∷ 0x00 ∷ 0x20 ∷ []
 
 -- no cells, and forty points; the first byte decides D

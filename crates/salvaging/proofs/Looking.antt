@@ -19,8 +19,8 @@ use Rattle.rules.proofs.Numbered.{length-rows}
 use Rattle.rules.proofs.Joined.{map-last}
 use Rattle.rules.proofs.Salvaged.{sound-kept}
 use Rattle.repeats.specs.Rows.{rowAt, rowsIn, bucketOf, bucketAt}
-use Rattle.repeats.specs.Chains.{Chains}
-use Rattle.repeats.proofs.Chained.{chains-none, chains-alike}
+use Rattle.rules.specs.Chains.{Chains}
+use Rattle.rules.proofs.Chained.{chains-none, chains-alike}
 use Rattle.dayfile.proofs.FourWords.{row-front, rows-front}
 use Rattle.salvaging.specs.Looked.{rowFault, fourOf, Looked}
 

@@ -8,7 +8,7 @@ use Rattle.rules.specs.File.{fileDim, outOf, twice}
 use Rattle.rules.specs.Calls.{rule, firstBroken}
 use Rattle.rules.specs.Salvage.{keptOf}
 use Rattle.repeats.specs.Rows.{rowsIn, bucketAt}
-use Rattle.repeats.specs.Chains.{Chains}
+use Rattle.rules.specs.Chains.{Chains}
 
 -- what is wrong with a cell's vertices by themselves, where there are n vertices: 7 or 8, 0 for nothing
 unfoldable pub rowFault : ℕ → List ℕ → ℕ

@@ -5,9 +5,9 @@ use Prim.Native.Nat.{ℕ, _-_, _≤_, _<_}
 use native.Mathlib.Omega.{arith}
 use borrow.Author.Count.{below-more}
 use Rattle.rules.specs.Lists.{repeated}
+use Rattle.rules.specs.Chains.{Chains}
+use Rattle.rules.proofs.Chained.{chains-none}
 use Rattle.repeats.specs.Rows.{rowsIn, bucketAt}
-use Rattle.repeats.specs.Chains.{Chains}
-use Rattle.repeats.proofs.Chained.{chains-none}
 use Rattle.repeats.proofs.Among.{row-fits, repeated-among, first-row}
 use Rattle.repeats.proofs.first_repeated.Statement.{statement}
 use Rattle.repeats.proofs.first_repeated.Tie as tie

@@ -7,10 +7,10 @@ use native.Mathlib.Omega.{arith}
 use lib.ListN.{getD}
 use borrow.Author.Needs.{needs}
 use Rattle.rules.specs.Lists.{anyOf, same}
+use Rattle.rules.specs.Chains.{Newest}
+use Rattle.rules.proofs.Chained.{chain-links, chains-more}
 use Rattle.repeats.specs.Rows.{rowAt, rowsIn, bucketOf, bucketAt}
-use Rattle.repeats.specs.Chains.{Newest}
 use Rattle.repeats.proofs.Mixed.{bucket-below}
-use Rattle.repeats.proofs.Chained.{chain-links, chains-more}
 use Rattle.repeats.proofs.Walked.{among-newest}
 use Rattle.repeats.proofs.Among.{bucket-only}
 use Rattle.repeats.proofs.meet.Statement.{statement}

@@ -1,7 +1,7 @@
 -- The candidate is looked for in the chain of its lowest vertex; a new one goes to the chain's head.
 use mathlib.Core.Path.{sym, _∙_}
 use native.Mathlib.Omega.{arith}
-use Rattle.repeats.proofs.Chained.{chain-links}
+use Rattle.rules.proofs.Chained.{chain-links}
 use Rattle.building.proofs.Chained.{met-old, met-new, chained-more}
 use borrow.Author.Needs.{needs}
 use Rattle.building.proofs.meet.meet.Statement.{statement}

@@ -6,18 +6,21 @@ use Prim.Native.Nat.{ℕ, _+_, _≤_, _<_}
 use native.Mathlib.Omega.{arith}
 use lib.ListN.{length, getD, set, replicate, length-set, length-replicate}
 use lib.Seq.{getD-set-same, getD-set-other}
 use Rattle.rules.proofs.Compared.{same-or-not}
 use Rattle.rules.proofs.Numbered.{last-or-below}
 use Rattle.rules.proofs.RightBook.{getD-zeros}
-use Rattle.repeats.specs.Chains.{Newest, Links, Chains}
+use Rattle.rules.specs.Chains.{Newest, Links, Chains}
 
--- no entry yet
-pub chains-none : (b : ℕ → ℕ) (heads room : ℕ) → Chains b heads room (replicate heads 0) (replicate room 0) 0
-chains-none b heads room = record {
-  links = record { next-long = length-replicate {A = ℕ} room 0; most = omega arith; older = λ i l. absurd (omega arith) };
+-- no entry yet, whatever `next` has
+pub chains-empty : (b : ℕ → ℕ) (heads room : ℕ) (next : List ℕ) → length next ≡ room → Chains b heads room (replicate heads 0) next 0
+chains-empty b heads room next e = record {
+  links = record { next-long = e; most = omega arith; older = λ i l. absurd (omega arith) };
   head-long = length-replicate {A = ℕ} heads 0;
   newest = λ v l. rw (getD-zeros heads v) (record { within = omega arith; none = λ i a b. absurd (omega arith); own = λ i e. absurd (omega arith) });
 }
+
+pub chains-none : (b : ℕ → ℕ) (heads room : ℕ) → Chains b heads room (replicate heads 0) (replicate room 0) 0
+chains-none b heads room = chains-empty b heads room (replicate room 0) (length-replicate {A = ℕ} room 0)
 
 -- entries whose buckets are alike below n have the same chains below n
 newest-alike : {b c : ℕ → ℕ} {n : ℕ} → ((i : ℕ) → i < n → c i ≡ b i) → {v m p : ℕ} → m ≤ n → Newest b v m p → Newest c v m p

@@ -1,0 +1,4 @@
+pub mod Links
+pub mod Cells
+pub mod Sought
+pub mod Answers
