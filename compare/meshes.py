@@ -124,7 +124,13 @@ def shuffled(rng, mesh):
     """The mesh with its vertices in another order, its cells too, and the vertices in each."""
     D, points, cells = mesh
     new = rng.sample(range(points), points)
-    return D, points, rng.sample([rng.sample([new[v] for v in cell], D + 1) for cell in cells], len(cells))
+    return in_another_order(rng, (D, points, [[new[v] for v in cell] for cell in cells]))
+
+
+def in_another_order(rng, mesh):
+    """The mesh with its cells in another order, and the vertices in each; each vertex keeps its number."""
+    D, points, cells = mesh
+    return D, points, rng.sample([rng.sample(cell, D + 1) for cell in cells], len(cells))
 
 
 def with_branch(rng, mesh):

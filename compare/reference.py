@@ -678,15 +678,21 @@ def sheet(book, across, rim, rim_vertices, rim_edges):
 
 # ---- a plain answer: from the cells' vertex sets and nothing else that a book holds
 
-def vertex_sets(frame, d):
-    """The vertex set of each entity of dimension d, of a right book: every vertex, or what the cells have, by first meeting."""
+def numbers_of(mesh, d):
+    """The number of each entity of dimension d by its vertex set, of a mesh as read_file gives it: every vertex, or what the cells have, by first meeting."""
+    D, points, cells = mesh
     if d == 0:
-        return [{v} for v in range(frame.counts[0])]
-    met = {}  # in the order in which its keys came
-    for cell in frame.rows(frame.D, 0):
-        for vertices in choose(d + 1, cell):
-            met.setdefault(tuple(vertices), len(met))
-    return [set(vertices) for vertices in met]
+        return {frozenset([v]): v for v in range(points)}
+    met = {}  # in the order in which its keys came, which is that of the numbers
+    for cell in cells:
+        for vertices in choose(d + 1, sorted(cell)):
+            met.setdefault(frozenset(vertices), len(met))
+    return met
+
+
+def vertex_sets(frame, d):
+    """The vertex set of each entity of dimension d, of a right book."""
+    return list(numbers_of((frame.D, frame.counts[0], frame.rows(frame.D, 0)), d))
 
 
 @functools.lru_cache(maxsize=1)
@@ -720,3 +726,24 @@ def plain(book, d, e, i, j):
     if j >= len(sets[e]):
         return 19, False, None
     return 0, incident(sets, d, e, i, j), None
+
+
+# ---- the same cells in another order: two meshes, each as read_file gives it
+
+def same_cells(one, other):
+    """Whether D, N_0 and the set of cells, as vertex sets, are equal."""
+    return one[:2] == other[:2] and set(map(frozenset, one[2])) == set(map(frozenset, other[2]))
+
+
+def partners(one, other, d):
+    """For each entity of dimension d of the one mesh, by its number, the number of that with the same vertices in the other."""
+    theirs = numbers_of(other, d)
+    return [theirs[vertices] for vertices in numbers_of(one, d)]
+
+
+def through(rows, from_d, from_e):
+    """The rows of a relation d→e of the one mesh as the other has them, by the partners of dimension d and of dimension e."""
+    out = [None] * len(rows)
+    for i, row in enumerate(rows):
+        out[from_d[i]] = sorted(from_e[j] for j in row)
+    return out

@@ -6,8 +6,9 @@ lent word, byte and float (by its bits), and every guard word must agree.
 --full adds meshes of the full size. It prints, for each call, how often each number was given, how often each
 answer of a list of asks and each closure of a face was written, how often random calls met each kind of place
 where a book is broken, each answer that comes of dropping relations, each kind of mesh that an Euler number was
-given for, each answer and kind of a box, of a salvage, of a sheet and of a plain answer, and the seed. From 20,000
-calls on each of these has to be met, from 200,000 on a hundred times.
+given for, each answer and kind of a box, of a salvage, of a sheet and of a plain answer, what two books of the same
+cells in another order have, and the seed. From 20,000 calls on each of these has to be met, from 200,000 on a
+hundred times.
 """
 
 import argparse
@@ -71,6 +72,10 @@ PLAIN_RULES = ("inside", "around", "shared vertex", "shared cell")
 PLAIN_KINDS = tuple("%s, %s, %s" % kind for kind in itertools.product(PLAIN_RULES, ("yes", "no"), ("reached", "not reached"))) + (
     "12 for d alone", "12 for e alone", "17 over 19", "not kept, reached", "not kept, not reached", "dropped, reached", "not held, reached", "unused vertex",
     "yes, and found no", "no, and found yes", "yes, and found 17", "no, and found 17", "yes, and found 19", "no, and found 19", "17, and found", "19, and found")
+# What two books of the same cells in another order were held to each other for: for each D 0→0, a relation that has other words, and an Euler number that both give; another relation
+# than 0→0 that has the same words; the same relations held, and others.
+ORDERS = tuple("D = %d, %s" % kind for kind in itertools.product((1, 2, 3), ("0→0", "other words", "Euler number in both"))) + (
+    "the same words", "the same relations", "other relations")
 # Floats by their bits: zeros, the least of all and the least that is normal and its neighbour, ones, the greatest and its neighbour.
 ZEROS = (0, 1 << 63)
 SMALL = ZEROS + tuple(sign << 63 | bits for sign in (0, 1) for bits in (1, 2, (1 << 52) - 1, 1 << 52))
@@ -184,11 +189,11 @@ class Runs:
 
     def count_kinds(self):
         """Counts from 0 how often each kind of place is met, by the calls that check the whole book, by row and by find; what comes of drops; what an
-        Euler number is given for; what boxes give; what salvages give; what the sheet gives; and what plain answers give."""
+        Euler number is given for; what boxes give; what salvages give; what the sheet gives; what plain answers give; and what two orders of the same cells have."""
         self.kinds = {"places": dict.fromkeys(rules.KINDS, 0), "row's": dict.fromkeys(rules.OWN_KINDS, 0), "find's": dict.fromkeys(rules.OWN_KINDS, 0),
                       "room": dict.fromkeys(ROOM, 0), "points": dict.fromkeys(POINTS, 0), "boxes": dict.fromkeys(BOXES + BOX_KINDS, 0),
                       "salvages": dict.fromkeys(SALVAGES + SALVAGE_KINDS, 0), "sheets": dict.fromkeys(SHEETS + SHEET_KINDS, 0),
-                      "plains": dict.fromkeys(PLAINS + PLAIN_KINDS, 0)}
+                      "plains": dict.fromkeys(PLAINS + PLAIN_KINDS, 0), "orders": dict.fromkeys(ORDERS, 0)}
 
     def fail(self, what, got, wanted):
         print("DISAGREE: %s: the library says %s, the reference %s" % (what, got, wanted))
@@ -224,7 +229,7 @@ class Runs:
             raise SystemExit("%s: 25 in a book that calls alone have written" % name)
 
     def meet(self, what):
-        for row in (self.kinds["room"], self.kinds["boxes"], self.kinds["salvages"], self.kinds["sheets"], self.kinds["plains"]):
+        for row in (self.kinds["room"], self.kinds["boxes"], self.kinds["salvages"], self.kinds["sheets"], self.kinds["plains"], self.kinds["orders"]):
             if what in row:
                 row[what] += 1
 
@@ -928,6 +933,52 @@ class Runs:
             books = [meshes.lying_book(rng, 3) for _ in range(3)]
             self.use(next((book for book in books if rules.euler(book)[0] == 0), books[0]))
             self.euler()
+
+    def order_run(self):
+        """The same cells in two orders, each in a book of its own that makes, asks, lists of asks and drops have written, at times the same ones: by
+        vertices both tell the same."""
+        rng, frames, eulers, steps = self.rng, [], [], None
+        D = rng.choice((1, 2, 3, 3))
+        mesh = meshes.random_mesh(rng, D, rng.choice((5, 6, 8, 12)), rng.choice((0, 1, 2, 5, 8, 14)))
+        sent = [mesh, meshes.in_another_order(rng, mesh)]
+        for one in sent:
+            self.use([7] * rng.choice((900, 2000)))
+            self.load(rules.file_bytes(*one))
+            if steps is None or rng.random() < 0.5:
+                steps = [(rng.choice(("make", "ask", "ask", "list", "drop")), [rng.randrange(D + 1) for _ in range(10)]) for _ in range(rng.randrange(1, 7))]
+            for name, pairs in steps:
+                if name == "list":
+                    self.ask_list(pairs, [7] * 5)
+                else:
+                    self.relation(name, *pairs[:2])
+            if rng.random() < 0.9:
+                self.relation("ask", 0, 0)
+            eulers.append(rules.euler(self.book)[1] if self.euler() == 0 else None)
+            frames.append(rules.Frame.of(self.book))
+        self.by_vertices(sent, frames, eulers)
+
+    def by_vertices(self, sent, frames, eulers):
+        """Two meshes with the same cells, the frames of their books and their Euler numbers, or None: what cannot differ does not. Said of the separate
+        program's books, to which the library's are held after each call."""
+        one, other = frames
+        D, maps = one.D, [rules.partners(*sent, d) for d in range(one.D + 1)]
+        self.demand("the same cells", (rules.same_cells(*sent), maps[0]), (True, list(range(sent[0][1]))))
+        for d in one.counts.keys() & other.counts.keys():
+            self.demand("N_%d in two orders" % d, one.counts[d], other.counts[d])
+        for d, e in one.held & other.held:
+            ours, theirs = one.rows(d, e), other.rows(d, e)
+            self.demand("%d→%d in two orders" % (d, e), rules.through(ours, maps[d], maps[e]), theirs)
+            if d == e == 0:
+                self.demand("the words of 0→0 in two orders", ours, theirs)
+                self.meet("D = %d, 0→0" % D)
+            else:
+                self.meet("the same words" if ours == theirs else "D = %d, other words" % D)
+        if None not in eulers:
+            self.demand("Euler numbers in two orders", *eulers)
+            self.meet("D = %d, Euler number in both" % D)
+        if one.held == other.held:
+            self.demand("words in two orders", one.book[4], other.book[4])
+        self.meet("%s relations" % ("the same" if one.held == other.held else "other"))
 
     def sheet_run(self):
         """Sheets, and what is nearly one, in a book that calls alone have written, or in lying ones; without one of the relations, or with more; at times with a word changed, or
@@ -2037,14 +2088,16 @@ class Runs:
         while self.left > 0:
             self.sequences += 1
             way = self.rng.random()
-            if way < 0.19:
+            if way < 0.175:
                 self.true_run()
-            elif way < 0.33:
+            elif way < 0.3:
                 self.strange_run()
-            elif way < 0.4:
+            elif way < 0.37:
                 self.phase_run()
-            elif way < 0.45:
+            elif way < 0.42:
                 self.points_run()
+            elif way < 0.46:
+                self.order_run()
             elif way < 0.57:
                 self.room_run()
             elif way < 0.65:

@@ -24,14 +24,13 @@
  * and numbers one past the last, which it has to refuse in either book, 17 for i and 19 for j.
  *
  * The lines go to standard output, and how long a question took to standard error. It ends with 0 where all agree, with 1 where some do
- * not or the file is refused, and with 2 where a word is wrong, the file cannot be opened or read, or a book does not fit in memory. A
+ * not, the file is refused or a row breaks the row rule, which is printed with WRONG, and with 2 where a word is wrong, the file cannot be opened or read, or a book does not fit in memory. A
  * file whose name begins with -- is named with ./ before it.
- * Built with place.h beside it and the two files that ./library leaves in a folder:
+ * Built with day.h and place.h beside it and the two files that ./library leaves in a folder:
  *
  *     cc -std=c99 -I FOLDER accept.c FOLDER/libdaybook.a -o accept
  */
-#include "daybook.h"
-#include "place.h"
+#include "day.h"
 #include <ctype.h>
 #include <stdio.h>
 #include <stdlib.h>
@@ -40,20 +39,9 @@
 
 enum { MOST_PAIRS = 100000, MOST_ENTRIES = 400000, SAMPLE = 10000, MOST_SHOWN = 10 };
 
-static uint8_t file[32768];
-static size_t size;
-
-/* A book, and how many words of it are lent. */
-struct book {
-    uint32_t *words;
-    size_t length;
-};
-
-/* The book that holds every relation, and the engine's, which holds D -> 0 alone. */
+/* The file; the book that holds every relation, and the engine's, which holds D -> 0 alone. */
+static struct day day;
 static struct book held, own;
-
-/* D and N_0 to N_D, as the book that holds every relation has them. */
-static uint32_t top, counts[4];
 
 /* A relation d -> e, and the number of its entries. */
 struct relation {
@@ -75,69 +63,6 @@ struct tally {
  * most. */
 static uint64_t unlike, timed;
 static clock_t together, longest;
-
-/* Says what there is no room for, and ends. */
-static void stop(const char *what) {
-    fprintf(stderr, "%s does not fit in memory\n", what);
-    exit(2);
-}
-
-/* Loads the file into a book of so many words. */
-static uint32_t load(struct book *b, uint64_t length) {
-    uint32_t cell;
-    free(b->words);
-    b->length = (size_t)length;
-    b->words = length <= SIZE_MAX / sizeof *b->words ? malloc(b->length * sizeof *b->words) : NULL;
-    if (!b->words) stop("the book");
-    return daybook_load(file, size, b->words, b->length, &cell);
-}
-
-/* Asks for every relation of a loaded book by one list. */
-static uint32_t ask_all(struct book *b) {
-    uint32_t pairs[2 * DAYBOOK_MOST_PAIRS], answers[DAYBOOK_MOST_PAIRS], dim = b->words[0] >> 30, count = 0;
-    for (uint32_t d = 0; d <= dim; d++)
-        for (uint32_t e = 0; e <= dim; e++) pairs[2 * count] = d, pairs[2 * count + 1] = e, count++;
-    uint32_t number = daybook_ask_list(b->words, b->length, pairs, 2 * (size_t)count, answers, count);
-    for (uint32_t k = 0; k < count && !number; k++) number = answers[k];
-    return number;
-}
-
-/* Fills both books: the one with every relation begins as large as a sheet of the file's size needs, and gets twice as many words as
- * long as that is too small. Of what it then lends nothing is free. */
-static uint32_t prepare(void) {
-    uint32_t head = (uint32_t)file[0] << 24 | (uint32_t)file[1] << 16 | (uint32_t)file[2] << 8 | file[3], points = head >> 16 & 0x3FFF;
-    uint32_t cells = head >> 3 & 0x1FFF, number = load(&own, 6 + (uint64_t)cells * ((head >> 30) + 2));
-    for (uint64_t words = DAYBOOK_WORDS_SHEET(head >> 30, points, cells); !number; words *= 2) {
-        number = load(&held, words);
-        if (!number) number = ask_all(&held);
-        if (!number) break;
-        if (number == DAYBOOK_NO_ROOM) number = 0;
-    }
-    if (number) return number;
-    held.length = held.words[4];
-    top = head >> 30, counts[0] = points, counts[1] = held.words[2], counts[2] = held.words[3], counts[top] = cells;
-    return 0;
-}
-
-/* A row of one of the relations held. */
-struct row {
-    const uint32_t *at;
-    size_t count;
-};
-
-/* Row i of d -> e, in the book that holds every relation. */
-static struct row row(uint32_t d, uint32_t e, uint32_t i) {
-    size_t start = 0, count = 0, position = 0;
-    uint32_t key = 0, number = daybook_row(held.words, held.length, d, e, i, &start, &count, &key, &position);
-    struct row r;
-    if (number) {
-        print_refusal(number, held.words, key, position);
-        exit(1);
-    }
-    r.at = held.words + start;
-    r.count = count;
-    return r;
-}
 
 /* What the relation says: whether j is in row i. */
 static struct answer of_relation(const struct relation *r, uint32_t i, uint32_t j) {
@@ -191,7 +116,7 @@ static void question(struct tally *t, const struct book *b, const struct relatio
 
 /* The number of pairs of a relation. */
 static uint64_t pairs_of(const struct relation *r) {
-    return (uint64_t)counts[r->d] * counts[r->e];
+    return (uint64_t)held.counts[r->d] * held.counts[r->e];
 }
 
 /* The lesser of two numbers. */
@@ -223,8 +148,8 @@ static void ask_spread(struct tally *t, const struct book *b, const struct relat
         uint64_t at = place(n, k, total);
         while (at - before >= in_row) {
             before += in_row;
-            now = row(r->d, r->e, next++);
-            in_row = is_entry ? now.count : counts[r->e] - now.count;
+            now = row(&held, r->d, r->e, next++);
+            in_row = is_entry ? now.count : held.counts[r->e] - now.count;
         }
         question(t, b, r, next - 1, is_entry ? now.at[at - before] : missing(&now, at - before));
     }
@@ -238,14 +163,14 @@ static void ask_share(struct tally *t, const struct book *b, const struct relati
 
 /* Asks about every pair of a relation. */
 static void ask_every(struct tally *t, const struct relation *r) {
-    for (uint32_t i = 0; i < counts[r->d]; i++)
-        for (uint32_t j = 0; j < counts[r->e]; j++) question(t, &own, r, i, j);
+    for (uint32_t i = 0; i < held.counts[r->d]; i++)
+        for (uint32_t j = 0; j < held.counts[r->e]; j++) question(t, &own, r, i, j);
 }
 
 /* Asks for one past the last row, and in the last row for one past the last number, where the engine has to say 17 and 19. */
 static void ask_past(struct tally *t, const struct book *b, const struct relation *r) {
     const struct answer no_row = {DAYBOOK_NO_SUCH_ENTITY, 0}, no_index = {DAYBOOK_NO_SUCH_INDEX, 0};
-    uint32_t rows = counts[r->d], past = counts[r->e];
+    uint32_t rows = held.counts[r->d], past = held.counts[r->e];
     hold(t, r, rows, past, no_row, of_engine(b, r, rows, past));
     if (rows) hold(t, r, rows - 1, past, no_index, of_engine(b, r, rows - 1, past));
 }
@@ -253,7 +178,7 @@ static void ask_past(struct tally *t, const struct book *b, const struct relatio
 /* The relation d -> e of the book that holds every one. */
 static struct relation relation(uint32_t d, uint32_t e) {
     struct relation r = {d, e, 0};
-    for (uint32_t i = 0; i < counts[d]; i++) r.entries += row(d, e, i).count;
+    for (uint32_t i = 0; i < held.counts[d]; i++) r.entries += row(&held, d, e, i).count;
     return r;
 }
 
@@ -263,8 +188,8 @@ static uint32_t relation_count;
 
 /* Lists every relation. */
 static void list_relations(void) {
-    for (uint32_t d = 0; d <= top; d++)
-        for (uint32_t e = 0; e <= top; e++) relations[relation_count++] = relation(d, e);
+    for (uint32_t d = 0; d <= held.top; d++)
+        for (uint32_t e = 0; e <= held.top; e++) relations[relation_count++] = relation(d, e);
 }
 
 /* The number of pairs in all relations together. */
@@ -305,7 +230,7 @@ static struct tally ask_relation(const struct relation *r, enum kind kind, uint6
         ask_every(&t, r);
     else
         ask_share(&t, &own, r, kind == ENTRIES ? r->entries : share);
-    printf("%u→%u: rows %u, entries %llu, ", (unsigned)r->d, (unsigned)r->e, (unsigned)counts[r->d], (unsigned long long)r->entries);
+    printf("%u→%u: rows %u, entries %llu, ", (unsigned)r->d, (unsigned)r->e, (unsigned)held.counts[r->d], (unsigned long long)r->entries);
     print_tally(t);
     return t;
 }
@@ -351,20 +276,6 @@ static uint64_t read_number(const char *text) {
     return number && !*end && number <= UINT32_MAX ? number : 0;
 }
 
-/* Reads the file, or says that it cannot be opened or read; 1 where it is read. */
-static int read_file(const char *name) {
-    FILE *in = fopen(name, "rb");
-    if (!in) {
-        fprintf(stderr, "%s cannot be opened\n", name);
-        return 0;
-    }
-    size = fread(file, 1, sizeof file, in);
-    int is_read = !ferror(in);
-    fclose(in);
-    if (!is_read) fprintf(stderr, "%s cannot be read\n", name);
-    return is_read;
-}
-
 /* Takes the words first, then the file, and then asks. */
 int main(int count, char **names) {
     int is_all = count == 3 && !strcmp(names[2], "--all");
@@ -373,8 +284,9 @@ int main(int count, char **names) {
         fprintf(stderr, "accept FILE [--questions N | --all]: a day file, and how many questions\n");
         return 2;
     }
-    if (!read_file(names[1])) return 2;
-    uint32_t number = prepare();
+    if (!read_day(&day, names[1])) return 2;
+    uint32_t cell, number = fill_bare(&own, &day, &cell);
+    if (!number) number = fill(&held, &day, 1, &cell);
     if (number) {
         printf("refused %u\n", (unsigned)number);
         return 1;

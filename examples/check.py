@@ -1,7 +1,7 @@
 """Tests mesh.py: it makes the example files as they stand here, its pictures count the edges, colour the triangles, frame cells, mark
 the rim and show the cells that are missing as the separate program does, and Gmsh files come out as the bytes written below, or with
 one line that says what is wrong. The broken book is broken in the one word that README.md shows, the boxes and the rim that README.md
-shows are the separate program's, and so are the cells of the file that was cut.
+shows are the separate program's, and so are the cells of the file that was cut. A file that is shuffled has the same cells in another order.
 
     python3 examples/check.py
 """
@@ -20,9 +20,10 @@ import phases  # noqa: E402
 import reference as rules  # noqa: E402
 import shapes  # noqa: E402
 
-FILES = ("t.day", "t.xy", "dam.day", "dam.xy", "dam.counts", "scan.day", "scan.xy", "stack.day", "stack.xy", "broken.book", "cut.day", "dam.rim")
+FILES = ("t.day", "t.xy", "t-again.day", "dam.day", "dam.xy", "dam.counts", "scan.day", "scan.xy", "stack.day", "stack.xy", "broken.book", "cut.day", "dam.rim")
 COLOURS = {"minus": -1, "cells": 0, "plus": 1, "masked": 2}
 T = bytes.fromhex("80040010 0000004006001001000c")
+T_AGAIN = bytes.fromhex("80040010 00180040040010018000")
 TETRAHEDRON = bytes.fromhex("c0040008 00180040000020")
 
 # T with tags 3, 5, 7, 10, and a node that no triangle uses; a point and a line are passed by.
@@ -151,6 +152,40 @@ def made(folder):
     for name in FILES:
         demand(name + " is what make writes", contents(folder, name) == contents(HERE, name), True)
     demand("T", contents(folder, "t.day"), T)
+    demand("T again", contents(folder, "t-again.day"), T_AGAIN)
+
+
+def cell_sets(data):
+    """D, N_0 and the vertex sets of the cells of a file, by the separate program."""
+    D, points, cells = rules.read_file(data)[2]
+    return D, points, [frozenset(cell) for cell in cells]
+
+
+def shuffled(folder):
+    """The same cells in another order, the vertices within each too; a seed gives one order, another seed another. T again is such a file."""
+    day = os.path.join(folder, "other.day")
+    for name in ("t", "dam", "stack"):
+        source, orders = os.path.join(HERE, name + ".day"), []
+        D, points, cells = cell_sets(contents(source))
+        for seed in ([], ["--seed", "1"], ["--seed", "-7"]):
+            said = "%s: D = %d, %d vertices, %d cells\n" % (day, D, points, len(cells))
+            demand("shuffle", run("shuffle", source, day, *seed), (0, said, ""))
+            orders.append(contents(day))
+            given = cell_sets(orders[-1])
+            demand("the same cells", (given[:2], len(given[2]), set(given[2])), ((D, points), len(cells), set(cells)))
+            if len(cells) > 2:
+                demand("another order", given[2] != cells, True)
+                demand("vertices in another order", any(cell != sorted(cell) for cell in rules.read_file(orders[-1])[2][2]), True)
+        demand("a seed gives one order, and another seed another", (orders[0] == orders[1], len(cells) == 2 or orders[1] != orders[2]), (True, True))
+    demand("T again is T", [set(cell_sets(data)[2]) for data in (T, T_AGAIN)], [{frozenset((0, 1, 3)), frozenset((1, 2, 3))}] * 2)
+    for data in (rules.file_bytes(1, 0, []), rules.file_bytes(3, 9, []), TETRAHEDRON):
+        source = put(os.path.join(folder, "in.day"), data)
+        demand("shuffle", [run("shuffle", source, source)[0], cell_sets(contents(source))], [0, cell_sets(data)])
+    missing = os.path.join(folder, "none.day")
+    for data, words in ((T[:13], "refused 6"), (b"\x80\x03" + T[2:], "refused 7, cell 0")):
+        demand("shuffle", run("shuffle", put(source, data), missing), (1, "", "%s: %s\n" % (source, words)))
+    demand("shuffle", run("shuffle", missing, missing), (1, "", "%s: No such file or directory\n" % missing))
+    demand("a refused file is not written", os.path.exists(missing), False)
 
 
 def broken():
@@ -486,6 +521,7 @@ def gmsh_files(folder):
 def main():
     with tempfile.TemporaryDirectory() as folder:
         made(folder)
+        shuffled(folder)
         broken()
         scan()
         framed()
@@ -497,7 +533,7 @@ def main():
         rim_pictures(folder)
         refusals(folder)
         gmsh_files(folder)
-    print("examples: the files are as they are made, the pictures count, colour and frame right, mark the rim and show what is missing, Gmsh files are read or refused as they should be")
+    print("examples: the files are as they are made, the pictures count, colour and frame right, mark the rim and show what is missing, Gmsh files are read or refused as they should be, and shuffled files have the same cells")
 
 
 if __name__ == "__main__":

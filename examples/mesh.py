@@ -1,8 +1,10 @@
 #!/usr/bin/env python3
-"""The example meshes: writes their day files, one that was cut, a rim, and a broken book, turns a Gmsh file into a day file, and draws a day file.
+"""The example meshes: writes their day files, one that was cut, one in another order, a rim, and a broken book, turns a Gmsh file into a day
+file, puts a day file's cells in another order, and draws a day file.
 
     python3 examples/mesh.py make
     python3 examples/mesh.py from-msh IN.msh OUT.day [--xy OUT.xy]
+    python3 examples/mesh.py shuffle IN.day OUT.day [--seed N]
     python3 examples/mesh.py draw FILE.day [--xy FILE.xy] [--counts FILE.counts] [--box CELL]... [--whole WHOLE.day] [--rim FILE.rim] OUT.svg
 
 A day file has no coordinates. They stand beside it, one line "x y" for each vertex. Where there are none, `draw` lays the
@@ -11,6 +13,9 @@ mesh out by how many edges part two vertices, so that what is far apart along th
 Nor has it phases. They stand beside it as counts, one line for each vertex: a whole number of 65,536ths of a turn, from -32768
 to 32767, or 65536 where the vertex is masked. With them `draw` colours each triangle by its closure. The closure's sign is that
 of the way around by ascending vertices, be it clockwise or counterclockwise in the picture.
+
+`shuffle` writes the same cells in another order, and the vertices within each cell in another order too, as a mesher may send them. The
+seed, 1 where none is named, gives the order.
 
 With --box `draw` also frames the whole mesh and each cell that is named, by their upright boxes. These are of places, so --xy has
 to be there.
@@ -25,6 +30,7 @@ edge's number and its two vertices.
 import argparse
 import math
 import os
+import random
 import struct
 import sys
 
@@ -86,6 +92,9 @@ def make(folder):
         write(path + ".day", rules.file_bytes(*mesh))
         write(path + ".xy", lines_of(places))
         print("%s.day: D = %d, %d vertices, %d cells" % (shape.__name__, mesh[0], mesh[1], len(mesh[2])))
+        if shape is shapes.t:
+            write(path + "-again.day", rules.file_bytes(*shapes.t_again()))
+            print("t-again.day: the cells of t.day in another order")
         if shape is shapes.dam:
             counts = phases.dam(places)
             write(path + ".counts", "".join("%d\n" % count for count in counts))
@@ -109,6 +118,15 @@ def from_msh(source, day, xy):
     if xy:
         write(xy, lines_of(places))
     print("%s: D = %d, %d vertices, %d cells" % (day, mesh[0], mesh[1], len(mesh[2])))
+
+
+def shuffle(source, day, seed):
+    """Orders by random numbers, of which Python says that a seed always gives the same."""
+    D, points, cells = mesh_of(source, source + ": ")
+    rng = random.Random(seed)
+    order = [sorted(cell, key=lambda _: rng.random()) for cell in cells]
+    write(day, rules.file_bytes(D, points, sorted(order, key=lambda _: rng.random())))
+    print("%s: D = %d, %d vertices, %d cells" % (day, D, points, len(cells)))
 
 
 def places_of(path, points):
@@ -188,6 +206,10 @@ def main():
     turning.add_argument("msh")
     turning.add_argument("day")
     turning.add_argument("--xy", help="where to write the vertices' x and y")
+    mixing = commands.add_parser("shuffle", help="a day file's cells in another order, and the vertices within each cell")
+    mixing.add_argument("source", metavar="in.day")
+    mixing.add_argument("day", metavar="out.day")
+    mixing.add_argument("--seed", type=int, default=1, help="a number that gives the order")
     showing = commands.add_parser("draw", help="a day file as an SVG picture")
     showing.add_argument("day")
     showing.add_argument("svg")
@@ -201,6 +223,8 @@ def main():
         make(given.to)
     elif given.command == "from-msh":
         from_msh(given.msh, given.day, given.xy)
+    elif given.command == "shuffle":
+        shuffle(given.source, given.day, given.seed)
     else:
         draw(given.day, given.xy, given.counts, given.box, given.whole, given.rim, given.svg)
 

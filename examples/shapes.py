@@ -95,6 +95,11 @@ def t():
     return (2, 4, [[0, 1, 3], [1, 2, 3]]), [(0, 0), (1, 0), (1, 1), (0, 1)]
 
 
+def t_again():
+    """T's cells in another order, and so are the vertices within each; the places are those of T."""
+    return 2, 4, [[3, 1, 2], [1, 3, 0]]
+
+
 def dam():
     """The face of a dam seen from downstream, 300 m wide at the crest, with a spillway and two outlets."""
     step = 356

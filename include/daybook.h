@@ -8,6 +8,11 @@
  * pair (d, i): d = 0 is a vertex, d = D a cell, d = 1 an edge, d = 2 a face; i counts within its own
  * dimension. The relation d -> e lists, for each entity (d, i), the entities of dimension e that touch it.
  *
+ * Vertices have the file's numbers. Cells, and with them edges and faces, are numbered in the order in which the file has the
+ * cells. So two files with the same cells in another order have the same entities, touching each other alike, but with other
+ * numbers: compare two files by vertices, not by the numbers of edges, faces and cells. What is listed by these numbers, as
+ * closures and steps are, is then in another order too.
+ *
  * THE BOOK is an array of 32-bit words that you lend to each call but daybook_salvage. It holds one mesh and the
  * relations made so far:
  *

@@ -7,6 +7,9 @@
 //! 512 KiB of stack, `salvage` and `sheet` up to 256 KiB, `load` and `whole_box` up to 128 KiB, `drop_relation`, `write`,
 //! `euler`, `closures`, `box_of` and `plain` up to 64 KiB.
 //!
+//! Edges, faces and cells are numbered in the order in which the file has the cells. Two files with the same cells in another order
+//! have the same entities with other numbers: compare two files by vertices, not by these numbers.
+//!
 //! ```no_run
 //! # let file: Vec<u8> = Vec::new();
 //! let mut book = vec![0; daybook::words_for_sheet(2, 1900, 3700) as usize];

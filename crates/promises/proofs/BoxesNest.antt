@@ -2,7 +2,7 @@
 use mathlib.Core.Path.{_≡_, sym, ap, _∙_}
 use mathlib.Core.Bool.{true}
 use mathlib.Core.List.{List, List·Memᴰ as In}
-use Prim.Native.Nat.{ℕ, zero, suc, _<_, _≤_}
+use Prim.Native.Nat.{ℕ, _<_, _≤_}
 use native.Mathlib.Omega.{arith}
 use lib.ListN.{length}
 use lib.Ieee.{Float}
@@ -14,15 +14,16 @@ use Rattle.rules.proofs.Tests.{any-of, has-of, inside-at}
 use Rattle.rules.proofs.Keep.{keep-of, upTo-of}
 use Rattle.rules.proofs.Incidence.{incident-down}
 use Rattle.rules.proofs.Accepted.{Boxes, boxes}
-use Rattle.rules.proofs.TrueRows.{low-entity, has-incident, vertex-row}
+use Rattle.rules.proofs.TrueRows.{has-incident}
 use Rattle.rules.proofs.TrueFacts.{rows-valid}
 use Rattle.promises.specs.Boxes.{BoxesNest, ListedNest, FaceBoxes, AllWithin}
 use Rattle.promises.proofs.Kept.{Kept, kept-dim, reached-kept}
 use Rattle.promises.proofs.DemandThree.{first-count, row-true}
-use Rattle.promises.proofs.Euler.{vertices-true, used-true}
+use Rattle.promises.proofs.Euler.{used-true}
 use Rattle.promises.proofs.FaceEdges.{in-cell}
 use Rattle.promises.proofs.BoxOver.{some-within, box-within}
-use Rattle.promises.proofs.Boxes.{vertices-row, vertices-number, whole-given}
+use Rattle.promises.proofs.Boxes.{vertices-number, whole-given}
+use Rattle.promises.proofs.EntityVertices.{entity-vertices}
 
 module _ (m : Mesh) (ws : List ℕ) (k : Kept m ws) where
   -- an accepted entity of dimension over 0 is one of the mesh's
@@ -31,11 +32,7 @@ module _ (m : Mesh) (ws : List ℕ) (k : Kept m ws) where
 
   -- and its vertices are the mesh's
   true-vertices : (coordinates : List Float) (axes d i : ℕ) → Boxes ws coordinates axes d i → verticesOf ws d i ≡ entity m d i
-  unfolding verticesOf
-  true-vertices coordinates axes zero i a = sym (low-entity m i (rw (vertices-true m ws k) at (a .below)))
-  true-vertices coordinates axes (suc d) i a =
-      let (h, l) = within coordinates axes (suc d) i (omega arith) a in
-      vertices-row ws (suc d) i (omega arith) ∙ row-true m ws k (suc d) 0 (omega arith) (a .there (omega arith)) i l ∙ vertex-row m (k .formed) (suc d) i (omega arith) h l
+  true-vertices coordinates axes d i a = entity-vertices m ws k d i (a .there) (a .below)
 
   -- the vertices of an edge, a face or a cell lie in a cell
   entity-used : (d i v : ℕ) → 0 < d → d ≤ m .dims → i < number m d → In v (entity m d i) → In v (usedVertices ws)

@@ -10,16 +10,16 @@ use borrow.Author.Tests.{eqb-true}
 use Rattle.rules.specs.Lists.{anyOf, has}
 use Rattle.rules.specs.Book.{count, key, named, held, rowOf, rowsOf}
 use Rattle.rules.specs.Calls.{rowNumber}
-use Rattle.rules.specs.Truth.{Mesh, number, trueRow, trueBook}
+use Rattle.rules.specs.Truth.{Mesh, number, trueRow, trueRows, trueBook}
 use Rattle.promises.specs.Demand.{HeldTrue, Different, InSomeCell, BothWays, Valid, GivenOut, FoundTrue, Determined, Alike, NothingElse}
-use Rattle.rules.proofs.Masks.{masks-equal}
+use Rattle.rules.proofs.Needs.{key-div, key-mod}
 use Rattle.rules.proofs.Accepted.{rowed, row-is, finds}
 use Rattle.rules.proofs.Found.{find-has}
 use Rattle.rules.proofs.TrueRows.{has-incident}
 use Rattle.rules.proofs.TrueFacts.{rows-both-ways, rows-valid, rows-different, rows-in-cell}
 use Rattle.rules.proofs.TrueBook.{book-rows, book-row, count-first, count-second}
 use Rattle.rules.proofs.Faultless.{faultless}
-use Rattle.promises.proofs.Kept.{Kept, kept-held, kept-dim, kept-mask, reached-kept, kept-right, kept-alike}
+use Rattle.promises.proofs.Kept.{Kept, kept-held, kept-dim, kept-mask, kept-masks, reached-kept, kept-right, kept-alike}
 
 -- a relation d→e held in a kept book: its counts and rows are the mesh's
 module _ (m : Mesh) (ws : List ℕ) (k : Kept m ws) (d e : ℕ) (l : e ≤ m .dims) (h : held ws (key d e) ≡ true) where
@@ -37,6 +37,11 @@ module _ (m : Mesh) (ws : List ℕ) (k : Kept m ws) (d e : ℕ) (l : e ≤ m .di
 
   pub row-true : (i : ℕ) → i < number m d → rowOf ws (key d e) i ≡ trueRow m d e i
   row-true i x = ap (λ (w : List ℕ). rowOf w (key d e) i) (k .words) ∙ book-row m (k .formed) (k .mask) (k .proper) d e four is-named (length ws) i x
+
+  pub rows-true : rowsOf ws (key d e) ≡ trueRows m d e
+  rows-true =
+      ap (λ (w : List ℕ). rowsOf w (key d e)) (k .words)
+      ∙ book-rows m (k .formed) (k .mask) (k .proper) (length ws) (key d e) is-named ∙ rw (key-div d e four, key-mod d e four)
 
   index-valid : (i j : ℕ) → i < count ws d → has j (rowOf ws (key d e) i) ≡ true → (j < count ws e) × (count ws e ≡ number m e)
   index-valid i j a t =
@@ -108,8 +113,7 @@ pub alike : Alike
 alike m ws vs r s l h =
     let a = reached-kept m ws r in
     let b = reached-kept m vs s in
-    let e : a .mask ≡ b .mask = masks-equal 16 (a .mask) (b .mask) (a .proper .small) (b .proper .small) (λ j x. sym (kept-held m ws a j) ∙ h j x ∙ kept-held m vs b j) in
-    a .words ∙ rw (l, e) (sym (b .words))
+    a .words ∙ rw (l, kept-masks m m ws vs a b h) (sym (b .words))
 
 pub nothing-else : NothingElse
 nothing-else m ws r =

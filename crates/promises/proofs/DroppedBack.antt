@@ -20,7 +20,7 @@ use Rattle.rules.proofs.Asked.{rank, within, rank-pos, rank-needs}
 use Rattle.rules.proofs.Accepted.{length-filled, make-is, ask-is, Drops, drops, drop-accepted}
 use Rattle.rules.proofs.LoadedWords.{getD-filled}
 use Rattle.rules.proofs.Proper.{Proper, proper-less}
-use Rattle.rules.proofs.TrueBook.{trueHead, trueUsed, true-length, true-fill, book-word}
+use Rattle.rules.proofs.TrueBook.{true-length, true-fill, book-used}
 use Rattle.rules.proofs.TrueMake.{true-filled}
 use Rattle.rules.proofs.TrueDrop.{true-left-filled}
 use Rattle.rules.proofs.RightDrop.{dropped-length}
@@ -98,10 +98,7 @@ module _ (m : Mesh) (ws : List ℕ) (k : Kept m ws) (d e : ℕ) (a : Drops ws d 
   -- what is left is as long as planned, with zeros behind
   used : getD vs 4 0 ≡ wordsFor m mask
   unfolding wordsFor
-  used = ap (λ (w : List ℕ). getD w 4 0) book ∙ book-word m mask (length ws) 4 (omega arith) ∙ word ∙ omega (arith, true-length m mask 0)
-    where
-      word : getD (trueHead m mask) 4 0 ≡ trueUsed m mask
-      word = unfold trueHead trueUsed in refl
+  used = ap (λ (w : List ℕ). getD w 4 0) book ∙ book-used m mask (length ws) ∙ omega (arith, true-length m mask 0)
 
   zeros : (i : ℕ) → wordsFor m mask ≤ i → getD vs i 0 ≡ 0
   unfolding wordsFor

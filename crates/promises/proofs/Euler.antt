@@ -6,7 +6,6 @@ use mathlib.Core.List.{List}
 use Prim.Native.Nat.{ℕ, _≤_, _<_}
 use native.Mathlib.Nat.{le-refl}
 use native.Mathlib.Omega.{arith}
-use lib.ListN.{length}
 use lib.Dec.{leb}
 use borrow.Author.Tests.{lt-leb}
 use Rattle.rules.specs.Lists.{membersBelow}
@@ -15,14 +14,12 @@ use Rattle.rules.specs.Calls.{eulerNumber, alternating, usedVertices, eulerOf}
 use Rattle.rules.specs.Truth.{Mesh, entities, number, usedIn, trueEuler}
 use Rattle.rules.specs.Plain.{meshIn}
 use Rattle.rules.proofs.Compared.{lt-or-le}
-use Rattle.rules.proofs.Needs.{key-div, key-mod}
 use Rattle.rules.proofs.Members.{members-same, members-all}
 use Rattle.rules.proofs.Accepted.{eulers}
 use Rattle.rules.proofs.TrueRows.{Formed, number-low, entities-top, vertex-rows}
-use Rattle.rules.proofs.TrueBook.{book-rows}
 use Rattle.promises.specs.Demand.{EulerTrue, UnusedPoints, AllUsed}
 use Rattle.promises.proofs.Kept.{Kept, kept-held, kept-dim, reached-kept}
-use Rattle.promises.proofs.DemandThree.{first-count, second-count}
+use Rattle.promises.proofs.DemandThree.{first-count, second-count, rows-true}
 
 -- ---- D→0 is held: its rows are the cells, and N_0 and the vertices used are the mesh's
 module _ (m : Mesh) (ws : List ℕ) (k : Kept m ws) where
@@ -31,9 +28,7 @@ module _ (m : Mesh) (ws : List ℕ) (k : Kept m ws) where
 
   pub cells-true : rowsOf ws (key (m .dims) 0) ≡ m .cells
   cells-true =
-      ap (λ (w : List ℕ). rowsOf w (key (m .dims) 0)) (k .words)
-      ∙ book-rows m (k .formed) (k .mask) (k .proper) (length ws) (key (m .dims) 0) (k .proper .top)
-      ∙ rw (key-div (m .dims) 0 (omega arith), key-mod (m .dims) 0 (omega arith)) (vertex-rows m (k .formed) (m .dims) (k .formed .low) (le-refl _) ∙ entities-top m (k .formed .low))
+      rows-true m ws k (m .dims) 0 (omega arith) top-held ∙ vertex-rows m (k .formed) (m .dims) (k .formed .low) (le-refl _) ∙ entities-top m (k .formed .low)
 
   pub vertices-true : count ws 0 ≡ m .vertices
   vertices-true = second-count m ws k (m .dims) 0 (omega arith) top-held ∙ number-low m

@@ -7,7 +7,6 @@ pub mod Planned
 pub mod Plain
 pub mod RoundTrip
 pub mod Lying
-pub mod Run
 pub mod Listed
 pub mod FaceEdges
 pub mod StepsAgree
@@ -15,6 +14,9 @@ pub mod FacesCancel
 pub mod DroppedBack
 pub mod BoxOver
 pub mod Boxes
+pub mod EntityVertices
 pub mod BoxesNest
 pub mod Salvages
 pub mod Sheets
+pub mod AnotherOrder
+pub mod Run

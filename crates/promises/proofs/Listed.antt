@@ -61,7 +61,7 @@ pub listed-fine : ListedFine
 listed-fine m ws r ps = answers-fine m ps ws (reached-kept m ws r)
 
 -- each answer is planned
-answers-planned : (m : Mesh) (ps ws : List ℕ) (k : Kept m ws) → answersOf ws ps ≡ answersPlan (length ws) m (k .mask) ps
+pub answers-planned : (m : Mesh) (ps ws : List ℕ) (k : Kept m ws) → answersOf ws ps ≡ answersPlan (length ws) m (k .mask) ps
 unfolding answersOf answersPlan
 answers-planned m [] ws k = refl
 answers-planned m (d ∷ []) ws k = refl

@@ -119,7 +119,7 @@ module _ (m : Mesh) (ws : List ℕ) (k : Kept m ws) where
       go false = kept-mask m ws k
 
   -- Drop
-  drop-planned : (d e : ℕ) → dropNumber ws d e ≡ dropPlan m (k .mask) d e
+  pub drop-planned : (d e : ℕ) → dropNumber ws d e ≡ dropPlan m (k .mask) d e
   unfolding dropNumber dropRules dropPlan firstBroken
   drop-planned d e = rw (frame, rows, kept-dim m ws k, kept-held m ws k (key d e))
 

@@ -6,3 +6,4 @@ pub mod Boxes
 pub mod Salvages
 pub mod Sheets
 pub mod Plain
+pub mod AnotherOrder

@@ -104,11 +104,15 @@ loads f ws h =
     }
 
 -- and it is accepted if all that holds
-pub accepts : (f ws : List ℕ) → Loads f ws → loadNumber f ws ≡ 0
+-- a file without a fault is refused with 13 alone, where the book is too short
+pub load-room : (f us ws : List ℕ) → Loads f us → loadNumber f ws ≡ cond (ltb (length ws) (length (loaded f))) 13 0
 unfolding loadNumber loadRules fileRules firstBroken
-accepts f ws a =
+load-room f us ws a =
     let l : 4 ≤ length f = rw (a .size) (unfold lengthOf in omega arith) in
-    rw (le-ltb (length f) 4 l, ne-eqb (fileDim f) 0 (omega (arith, a .low)), le-ltb 8192 (fileVertices f) (a .vertices), le-ltb 4096 (fileCells f) (a .cells), le-ltb 0 (fileSpare f) (omega (arith, a .spare)), eq-eqb (length f) (lengthOf (fileDim f) (fileCells f)) (a .size), a .within, a .apart, a .unlike, a .ended, le-ltb (length ws) (length (loaded f)) (a .fits))
+    rw (le-ltb (length f) 4 l, ne-eqb (fileDim f) 0 (omega (arith, a .low)), le-ltb 8192 (fileVertices f) (a .vertices), le-ltb 4096 (fileCells f) (a .cells), le-ltb 0 (fileSpare f) (omega (arith, a .spare)), eq-eqb (length f) (lengthOf (fileDim f) (fileCells f)) (a .size), a .within, a .apart, a .unlike, a .ended)
+
+pub accepts : (f ws : List ℕ) → Loads f ws → loadNumber f ws ≡ 0
+accepts f ws a = load-room f ws ws a ∙ rw (le-ltb (length ws) (length (loaded f)) (a .fits))
 
 pub load-accepted : (f ws : List ℕ) → loadNumber f ws ≡ 0 → loadWords f ws ≡ filled (length ws) (loaded f)
 unfolding loadWords

@@ -8,7 +8,7 @@ use native.Mathlib.Omega.{arith}
 use lib.ListN.{length}
 use lib.Dec.{eqb}
 use Rattle.rules.specs.Lists.{keep}
-use Rattle.rules.proofs.Keep.{keep-agree, keep-is}
+use Rattle.rules.proofs.Keep.{keep-agree, keep-of, keep-is}
 use Rattle.rules.proofs.Distinct.{Distinct}
 
 -- the sum of f over the members
@@ -101,6 +101,19 @@ module _ {ℓ} {A : Type ℓ} where
   pub distinct-same : (xs ys : List A) → Distinct xs → Distinct ys → ((x : A) → In x xs → In x ys) → ((x : A) → In x ys → In x xs) → length xs ≡ length ys
   distinct-same xs ys d e f g = omega (arith, distinct-short xs ys d f, distinct-short ys xs e g)
 
+  -- and as many of them pass a test
+  pub distinct-keep : (p : A → Bool) (xs ys : List A) → Distinct xs → Distinct ys → ((x : A) → In x xs → In x ys) → ((x : A) → In x ys → In x xs) → length (keep p xs) ≡ length (keep p ys)
+  distinct-keep p xs ys d e f g =
+      distinct-same (keep p xs) (keep p ys) (keep-distinct p xs d) (keep-distinct p ys e)
+      (λ x i. let (j, t) = keep-is p xs i in keep-of p ys (f x j) t)
+      (λ x i. let (j, t) = keep-is p ys i in keep-of p xs (g x j) t)
+
+  -- terms that agree
+  pub sum-agree : (f g : A → ℕ) (xs : List A) → ((x : A) → In x xs → f x ≡ g x) → sumOver f xs ≡ sumOver g xs
+  unfolding sumOver
+  sum-agree f g [] h = refl
+  sum-agree f g (x ∷ xs) h = rw (h x (here refl), sum-agree f g xs (λ y i. h y (there i)))
+
 module _ {ℓ κ} {A : Type ℓ} {B : Type κ} where
   pub keep-map : (p : B → Bool) (f : A → B) (xs : List A) → keep p (map f xs) ≡ map f (keep (λ x. p (f x)) xs)
   unfolding keep
@@ -110,6 +123,11 @@ module _ {ℓ κ} {A : Type ℓ} {B : Type κ} where
       go : (b : Bool) → keep p (map f xs) ≡ map f (keep (λ y. p (f y)) xs) → cond b (f x ∷ keep p (map f xs)) (keep p (map f xs)) ≡ map f (cond b (x ∷ keep (λ y. p (f y)) xs) (keep (λ y. p (f y)) xs))
       go true e = rw e
       go false e = e
+
+  pub sum-map : (f : B → ℕ) (g : A → B) (xs : List A) → sumOver f (map g xs) ≡ sumOver (λ x. f (g x)) xs
+  unfolding sumOver
+  sum-map f g [] = refl
+  sum-map f g (x ∷ xs) = ap (λ (n : ℕ). f (g x) + n) (sum-map f g xs)
 
   -- ---- pairs of a member of xs and a member of ys, counted from either side
   sum-none : (r : A → B → Bool) (ys : List B) → sumOver (λ y. length (keep (λ z. r z y) [])) ys ≡ 0

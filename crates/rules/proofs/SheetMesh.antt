@@ -5,20 +5,21 @@ use mathlib.Core.Bool.{Bool, true, false, cond, _&&_, _||_}
 use mathlib.Core.List.{List, [], _∷_, List·Memᴰ as In, List·Memᴰ·not-nil}
 use Prim.Native.Nat.{ℕ, _+_, _%_, _<_}
 use native.Mathlib.Omega.{arith}
-use lib.ListN.{length, getD, length-map}
+use lib.ListN.{length, getD}
 use lib.Dec.{eqb}
 use borrow.Author.Tests.{eqb-true}
 use Rattle.rules.specs.Lists.{upTo, anyOf, keep, has, inside, ascends, choose}
 use Rattle.rules.specs.Truth.{Mesh, entities, number, entity, incident, trueRow}
 use Rattle.rules.proofs.Tests.{both, and-of, inside-of, inside-at}
 use Rattle.rules.proofs.Keep.{keep-agree, keep-of, keep-is, upTo-is}
-use Rattle.rules.proofs.Numbered.{rows-all, three-members}
+use Rattle.rules.proofs.Numbered.{three-members}
 use Rattle.rules.proofs.Ascending.{ascends-two}
 use Rattle.rules.proofs.Choose.{Chosen, chosen, choice, choose-distinct}
 use Rattle.rules.proofs.Built.{built-distinct, built-is, built-of}
 use Rattle.rules.proofs.Incidence.{incident-down, incident-up}
 use Rattle.rules.proofs.TrueRows.{Formed, entities-mid, entities-top, entity-in}
-use Rattle.rules.proofs.Counted.{count-cons, keep-keep, keep-swap, keep-map, sum-even, sum-ones, keep-distinct, distinct-same, pairs}
+use Rattle.rules.proofs.TrueFacts.{by-number}
+use Rattle.rules.proofs.Counted.{count-cons, keep-keep, keep-swap, sum-even, sum-ones, keep-distinct, distinct-same, pairs}
 
 -- ---- the sets of a cell
 module _ (m : Mesh) (f : Formed m) (d : ℕ) (h : 0 < d) (k : d < m .dims) where
@@ -50,13 +51,6 @@ module _ (m : Mesh) (f : Formed m) (d : ℕ) (h : 0 < d) (k : d < m .dims) where
       let (a, t) = keep-is p (choose (d + 1) c) j in
       let (b, u) = set-of c s i a in
       keep-of (λ s. p s && inside s c) (entities m d) b (and-of (p s) (inside s c) t u))
-
--- as many numbers pass a test as entities
-by-number : (m : Mesh) (d : ℕ) (p : List ℕ → Bool) → length (keep (λ i. p (entity m d i)) (upTo (number m d))) ≡ length (keep p (entities m d))
-unfolding entity number
-by-number m d p =
-    sym (length-map (keep (λ i. p (entity m d i)) (upTo (number m d))) (entity m d))
-    ∙ ap length (sym (keep-map p (entity m d) (upTo (number m d)))) ∙ ap (λ (es : List (List ℕ)). length (keep p es)) (rows-all (entities m d) [])
 
 -- ---- a triangle
 -- a vertex is in two of the three edges or in none

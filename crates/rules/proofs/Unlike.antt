@@ -3,7 +3,7 @@ use mathlib.Core.Path.{_≡_, sym, ap, _∙_}
 use mathlib.Core.Logic.{_⊎_, inl, inr}
 use mathlib.Core.Bool.{true, false, false≢true}
 use mathlib.Core.List.{List, [], _∷_, _++_, map, List·Memᴰ as In}
-use Prim.Native.Nat.{ℕ, _+_, _<_}
+use Prim.Native.Nat.{ℕ, suc, _+_, _<_}
 use native.Mathlib.Omega.{arith}
 use lib.ListN.{length, getD, take, length-take, length-append, length-map, List·getD-append}
 use lib.Seq.{getD-take, getD-append-add}
@@ -13,6 +13,7 @@ use Rattle.rules.proofs.Tests.{any-of, any-is, any-none, none-of, same-
 use Rattle.rules.proofs.Keep.{upTo-of, upTo-is}
 use Rattle.rules.proofs.Numbered.{length-upTo, getD-map}
 use Rattle.rules.proofs.Compared.{order, lt-or-le}
+use Rattle.rules.proofs.Distinct.{Distinct}
 use Rattle.rules.proofs.Searched.{any-first, place-in}
 use Rattle.rules.proofs.Ranked.{rank-of}
 
@@ -93,3 +94,15 @@ repeats-map g xs u h =
     let l : j < length xs = rw length-map at b in
     let s = h (getD xs i 0) (getD xs j 0) (getD-in xs i 0 k) (getD-in xs j 0 l) (sym (getD-map g xs i 0 [] k) ∙ e ∙ getD-map g xs j 0 [] l) in
     sym (rank-of xs i 0 u k) ∙ ap (λ (x : ℕ). firstAt (eqb x) xs) s ∙ rank-of xs j 0 u l)
+
+-- they are all different members
+pub unlike-distinct : (rs : List (List ℕ)) → Unlike rs → Distinct rs
+unlike-distinct [] u = tt
+unlike-distinct (r ∷ rs) u =
+    (λ i. let (j, l, e) = place-in rs [] i in new j (u 0 (suc j) (omega arith) (omega arith) e), unlike-distinct rs (λ i j a b e. one-less i j (u (suc i) (suc j) (omega arith) (omega arith) e)))
+  where
+    new : (j : ℕ) → 0 ≡ suc j → ⊥
+    new j e = omega arith
+
+    one-less : (i j : ℕ) → suc i ≡ suc j → i ≡ j
+    one-less i j e = omega arith
