@@ -12,7 +12,7 @@ use lib.Seq.{ext_get_or, get_or-set_same, get_or-set_other}
 use lib.Dec.{ltb, leb}
 use borrow.Author.Tests.{lt-ltb, le-ltb, le-leb, lt-leb}
 use Rattle.rules.specs.Lists.{up_to}
-use Rattle.rules.specs.File.{bit_at, field, byte_of, packed, bit_with, with_field}
+use Rattle.rules.specs.File.{bit_at, byte_of, packed, bit_with, with_field}
 use Rattle.rules.proofs.Tests.{all-of, all_map}
 use Rattle.rules.proofs.Numbered.{get_d_rows}
 use Rattle.rules.proofs.Masks.{bit-half, bits-equal}

@@ -74,6 +74,7 @@ module _ {ℓ} {A : Type ℓ} where
     others : (y : A) → In y ys → (y ≡ x) ⊎ In y rest
 
   without : {x : A} (ys : List A) → In x ys → Without x ys
+  without {x = x} [] x'' = elim x'' [ ]
   without {x} (y ∷ ys) (here e) = record { rest = ys; size = refl; others = go }
     where
       go : (z : A) → In z (y ∷ ys) → (z ≡ x) ⊎ In z ys

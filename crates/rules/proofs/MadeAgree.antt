@@ -11,7 +11,7 @@ use lib.Seq.{get_or-take, take-take}
 use lib.Dec.{ltb}
 use borrow.Author.Tests.{ltb-true}
 use Rattle.rules.specs.Lists.{all_of, has}
-use Rattle.rules.specs.Book.{dim, count, key, held, place, row_of, rows_of, relation, needs, Right}
+use Rattle.rules.specs.Book.{dim, count, key, held, place, row_of, rows_of, needs, Right}
 use Rattle.rules.specs.Made.{built, turned, listed_at, intersected, neighbours, vertex_neighbours, made_from, made}
 use Rattle.rules.specs.Calls.{count_after, added}
 use Rattle.rules.proofs.Tests.{all-at}

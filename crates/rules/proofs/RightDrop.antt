@@ -12,7 +12,7 @@ use lib.Seq.{get_or-take}
 use lib.Dec.{eqb, ltb, leb}
 use borrow.Author.Tests.{lt-ltb, le-leb, eqb-true, ltb-true, leb-true}
 use Rattle.rules.specs.Lists.{filled}
-use Rattle.rules.specs.Book.{dim, count, key, named, held, mentions, rows_of, relation, relations, head_right, key_right, most, count_right, frame_right, row_right, rows_right, Right}
+use Rattle.rules.specs.Book.{dim, count, key, held, mentions, rows_of, relation, relations, head_right, key_right, most, count_right, frame_right, row_right, rows_right, Right}
 use Rattle.rules.specs.Calls.{count_left, dropped, drop_number, drop_words}
 use Rattle.rules.proofs.Tests.{left, right, all_weaker}
 use Rattle.rules.proofs.Mentions.{mentions-of}

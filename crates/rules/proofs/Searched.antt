@@ -57,6 +57,7 @@ module _ {ℓ} {A : Type ℓ} (p : A → Bool) where
 pub place_in {ℓ} : {A : Type ℓ} {x : A} (xs : List A) (d : A) → In x xs → (i : ℕ) × (i < length xs) × (x ≡ get_or xs i d)
 place_in (y ∷ ys) d (here e) = (0, omega arith, e)
 place_in (y ∷ ys) d (there i) = let (j, l, e) = place_in ys d i in (suc j, omega arith, e)
+place_in {A = A} [] d x'' = elim x'' [ ]
 
 module _ {ℓ} {A : Type ℓ} (p : A → Bool) (d : A) where
   pub first_passes : (xs : List A) → first_at p xs < length xs → p (get_or xs (first_at p xs) d) ≡ true
