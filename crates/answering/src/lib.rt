@@ -1,4 +1,6 @@
 // What the program dayreport prints for a file: the file is loaded, all relations are asked for by ascending key, and the book is reported.
+#![tactic(auto)]
+
 ghost use Rattle.std.specs.Prelude.{◌≡◌, cond, ◌/◌, ◌%◌, ◌<◌};
 ghost use Rattle.rules.specs.Calls.{ask_number, ask_words};
 ghost use Rattle.report.specs.Printed.{Printed};

@@ -1,15 +1,17 @@
 // The book: a day's mesh and its relations in lent 32-bit words. What its words say, for every slice of words.
+#![tactic(auto)]
+
 ghost use Rattle.std.specs.Prelude.{◌≡◌, map, ℕ, ◌+◌, ◌≤◌, get_or};
 ghost use Rattle.rules.specs.Lists.{up_to};
 ghost use Rattle.rules.specs.Book as rule;
 ghost use Rattle.book.specs.Numbers.{numbers};
 
 // A position in the book.
-#[derive(Drop)]
+#[derive(Clone, Copy)]
 pub struct Place(pub usize);
 
 // Where each relation stands or would stand, by its key, and after them the place behind the last.
-#[derive(Drop)]
+#[derive(Clone, Copy)]
 pub struct Places {
     pub at: [Place; 17],
 }

@@ -1,4 +1,6 @@
 // Upright boxes of vertices, from lent coordinates: begun as the first vertex, grown in place by the others, an end replaced only by a strictly smaller or greater value.
+#![tactic(auto)]
+
 mod coordinates;
 mod shapes;
 

@@ -1,7 +1,7 @@
 // A vertex's point, and an upright box.
 
 // The coordinates of a vertex; with two axes the third is 0.0.
-#[derive(Drop)]
+#[derive(Clone, Copy)]
 pub struct Point {
     pub x: f64,
     pub y: f64,
@@ -9,7 +9,7 @@ pub struct Point {
 }
 
 // An upright box by its ends, the least and the greatest of each coordinate.
-#[derive(Drop)]
+#[derive(Clone, Copy)]
 pub struct Bounds {
     pub least_x: f64,
     pub greatest_x: f64,

@@ -3,7 +3,7 @@ use boxes::Bounds;
 use rows::Broken;
 
 // The answer for the box of an entity.
-#[derive(Drop)]
+#[derive(Clone, Copy)]
 pub enum Boxed {
     Around(Bounds),
     FrameBroken,
@@ -17,7 +17,7 @@ pub enum Boxed {
 }
 
 // The answer for the box of the whole mesh.
-#[derive(Drop)]
+#[derive(Clone, Copy)]
 pub enum WholeBoxed {
     Around(Bounds),
     NoBox,
@@ -29,7 +29,7 @@ pub enum WholeBoxed {
 }
 
 // Whether coordinates may be lent: right, or their refusal.
-#[derive(Drop)]
+#[derive(Clone, Copy)]
 pub enum Lent {
     Right,
     AxisCount,

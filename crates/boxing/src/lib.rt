@@ -1,4 +1,6 @@
 // Frames for the viewer: the calls. The upright box of an entity, and of the whole mesh, from the coordinates of the vertices.
+#![tactic(auto)]
+
 mod answers;
 
 ghost use Rattle.std.specs.Prelude.{◌≡◌, not, ◌&&◌, ◌≤◌, ltb};

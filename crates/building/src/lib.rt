@@ -1,4 +1,6 @@
 // Build: d→0 with 0 < d < D, from the cells' vertex sets, written behind the used words; or only counted.
+#![tactic(auto)]
+
 mod candidates;
 mod meet;
 mod write;
@@ -15,7 +17,7 @@ use meet::meet_cells;
 use write::write_sets;
 
 // The relation D→0 that d→0 is built from: where it stands, how many cells it has, and D.
-#[derive(Drop)]
+#[derive(Clone, Copy)]
 pub struct Cells {
     pub at: Place,
     pub count: u32,
@@ -23,7 +25,7 @@ pub struct Cells {
 }
 
 // What Build gives: the place after the relation, and N_d.
-#[derive(Drop)]
+#[derive(Clone, Copy)]
 pub struct Built {
     pub end: Place,
     pub count: u32,

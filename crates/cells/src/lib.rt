@@ -1,4 +1,6 @@
 // The cells of a right book: their vertices, the vertices that lie in at least one of them, counted or listed, and the lowest that lies in none.
+#![tactic(auto)]
+
 mod listed;
 mod unused;
 

@@ -5,7 +5,7 @@ ghost use Rattle.closing.specs.Answers.{closed_number};
 use rows::Broken;
 
 // The answer of Close.
-#[derive(Drop)]
+#[derive(Clone, Copy)]
 pub enum Closed {
     Accepted,
     FrameBroken,

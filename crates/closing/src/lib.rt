@@ -1,4 +1,6 @@
 // Phase closures: the call. Steps and bytes for every edge, closures for every face, from the counts of the vertices.
+#![tactic(auto)]
+
 mod answers;
 
 ghost use Rattle.std.specs.Prelude.{◌≡◌, true, length};

@@ -1,4 +1,6 @@
 // Phase closures: readings of counts, steps of edges and closures of faces, in 64-bit floats that are exact.
+#![tactic(auto)]
+
 mod values;
 mod writing;
 

@@ -5,7 +5,7 @@ ghost use Rattle.daybook.specs.Answers.{asked_number};
 use rows::Broken;
 
 // Make's answer.
-#[derive(Drop)]
+#[derive(Clone, Copy)]
 pub enum Made {
     Accepted,
     FrameBroken,
@@ -18,7 +18,7 @@ pub enum Made {
 }
 
 // Ask's answer.
-#[derive(Drop)]
+#[derive(Clone, Copy)]
 pub enum Asked {
     Accepted,
     FrameBroken,
@@ -43,14 +43,14 @@ pub fn asked_number(answer: Asked) -> u32
 }
 
 // The answer of a list of asks.
-#[derive(Drop)]
+#[derive(Clone, Copy)]
 pub enum Listed {
     Accepted,
     PairsOff,
 }
 
 // Drop's answer.
-#[derive(Drop)]
+#[derive(Clone, Copy)]
 pub enum Dropped {
     Accepted,
     FrameBroken,

@@ -67,6 +67,8 @@
 //
 // ask_list gives no other number as a call: what each of its asks is refused for stands among its answers.
 // salvage gives none of 6, 7, 8 and 23 as a call: they stand in its list, beside the number of each cell that it drops: 6 where the cell is not whole in the file, 23 where it has the vertices of one kept before it, and of the four the first that applies.
+#![tactic(auto)]
+
 mod answers;
 mod asks;
 mod drops;

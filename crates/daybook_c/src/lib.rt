@@ -1,4 +1,6 @@
 // The C interface: each call of `daybook` under the name that include/daybook.h declares. The result is the paper's number, 0 where accepted; what an out reference refers to is written only where the paper gives something, and is otherwise left alone: with 11 the key and the position where the book is broken, with 28 why it is not a sheet.
+#![tactic(auto)]
+
 mod boxed;
 mod salvaged;
 mod sheeted;

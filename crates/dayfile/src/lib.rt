@@ -1,4 +1,6 @@
 // A day file: its faults, its cells, and the writing of one.
+#![tactic(auto)]
+
 mod faults;
 mod head;
 mod kinds;

@@ -1,5 +1,7 @@
 // dayreport: a day file on standard input, in a book of 12,288 words; on standard output the counts of the mesh and of each relation.
 // A read that fails is told on standard error, and nothing is printed.
+#![tactic(auto)]
+
 use libc::{STDIN_FILENO, STDOUT_FILENO};
 
 // Whether the input has ended: one more read gives nothing, and does not fail.

@@ -1,5 +1,7 @@
 // daysalvage: a day file on standard input, of which no more than 26,628 bytes are read, the length of the longest; on standard output the file of the cells that can be saved, or "refused" and the number. Standard error has the words for people.
 // A read that fails is told on standard error, and nothing is written.
+#![tactic(auto)]
+
 ghost use Rattle.std.specs.Prelude.{◌*◌, ◌≤◌, length};
 
 use libc::{STDERR_FILENO, STDIN_FILENO, STDOUT_FILENO};

@@ -74,6 +74,7 @@ module _ (beyond : Float → Float → Bool) (way : Direction beyond) where
 
   furthest-other : (e : Float) (xs : List Float) (z : Float) → finite e ≡ true → all_of finite xs ≡ true → In z xs → beyond z (furthest beyond e xs) ≡ false
   unfolding furthest all_of
+  furthest-other e [] z E X x3 = elim x3 [ ]
   furthest-other e (x ∷ xs) z E X (here p) =
       let h = left (finite x) (all_of finite xs) X in
       let k = right (finite x) (all_of finite xs) X in

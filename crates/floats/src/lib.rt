@@ -1,1 +1,4 @@
+#![tactic(auto)]
+
 // Laws of 64-bit floats: no code.
+

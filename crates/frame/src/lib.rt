@@ -1,4 +1,6 @@
 // The frame rule: word 0, the keys, the numbers N_1 and N_2, and the used length.
+#![tactic(auto)]
+
 ghost use Rattle.std.specs.Prelude.{◌≡◌, ◌&&◌, ◌/◌, ◌%◌, ◌≤◌, ◌<◌, length, get_or, eqb, leb};
 ghost use Rattle.rules.specs.Lists.{all_of, filled};
 ghost use Rattle.rules.specs.Book as rule;
@@ -6,7 +8,7 @@ ghost use Rattle.rules.specs.Book as rule;
 use book::{Place, count, dim, held, key, place_of, word};
 
 // The keys of what a relation is made from, in order, with zeros behind them, and how many they are.
-#[derive(Drop)]
+#[derive(Clone, Copy)]
 pub struct Needs {
     pub keys: [u32; 3],
     pub count: usize,

@@ -1,4 +1,6 @@
 // Intersection: the rows of d→d' with d > d' > 0, by merging at most four ascending rows and keeping what lies inside.
+#![tactic(auto)]
+
 ghost use Rattle.std.specs.Prelude.{◌≡◌, map, ◌+◌, ◌-◌, ◌^◌, ◌<◌, ◌≤◌, min, length};
 ghost use Rattle.rules.specs.Lists.{up_to, has, inside};
 ghost use Rattle.rules.specs.Book.{relation};

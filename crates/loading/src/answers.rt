@@ -2,7 +2,7 @@
 use dayfile::Cell;
 
 // Load's answer.
-#[derive(Drop)]
+#[derive(Clone, Copy)]
 pub enum Loaded {
     Accepted,
     FileTooShort,

@@ -1,4 +1,6 @@
 // Load; and the words of a loaded mesh: where they end, and a book filled with them.
+#![tactic(auto)]
+
 mod answers;
 mod call;
 

@@ -1,5 +1,7 @@
 // Relations made in a right book, in place: one, or one with all that it is made from; where they do not fit, the book is as it was.
 // And a relation taken out of it.
+#![tactic(auto)]
+
 ghost use Rattle.std.specs.Prelude.{◌≡◌, not, ◌&&◌, ◌≤◌, ◌<◌, length, eqb, leb};
 ghost use Rattle.rules.specs.Lists.{up_to, any_of, filled};
 ghost use Rattle.rules.specs.Book.{dim, key, named, held, Right};
@@ -12,7 +14,7 @@ use book::Place;
 use relations::Source;
 
 // A relation written behind the used words: the place after it, and its number of rows where it is d→0 with d > 0.
-#[derive(Drop)]
+#[derive(Clone, Copy)]
 struct Appended {
     end: Place,
     rows: u32,

@@ -2,7 +2,7 @@
 use rows::Broken;
 
 // The answer.
-#[derive(Drop)]
+#[derive(Clone, Copy)]
 pub enum WorkedOut {
     Incident(bool),
     FrameBroken,

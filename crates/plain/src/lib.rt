@@ -1,4 +1,6 @@
 // A plain engine beside the relations: is (e, j) incident to (d, i), worked out from the cells' vertex sets each time, with its own numbering of entities. Once the book is found right, it goes by no relation but D→0. With what makes the relations it shares the checks of the book and the reading of single words, and nothing else.
+#![tactic(auto)]
+
 mod answers;
 mod candidates;
 mod chains;

@@ -12,14 +12,14 @@ use crate::sets::corner_of;
 use crate::stored::{Sizes, cell_at};
 
 // An entity, (d, i).
-#[derive(Drop)]
+#[derive(Clone, Copy)]
 pub struct Entity {
     pub dim: usize,
     pub number: u32,
 }
 
 // What came of looking for an entity: whether it is there, how many numbers are left to go where its candidates were gone through without it, and its vertices where it is there.
-#[derive(Drop)]
+#[derive(Clone, Copy)]
 pub struct Sought {
     pub there: bool,
     pub left: u32,

@@ -6,7 +6,7 @@ ghost use Rattle.plain.specs.Cells.{cell_at, cells_before};
 use crate::sets::has_both;
 
 // What word 0 says: D, N_D and N_0.
-#[derive(Drop)]
+#[derive(Clone, Copy)]
 pub struct Sizes {
     pub dim: usize,
     pub cells: usize,

@@ -5,7 +5,7 @@ ghost use Rattle.reading.specs.Answers.{row_answer};
 use rows::Broken;
 
 // Row's answer: accepted, or a refusal.
-#[derive(Drop)]
+#[derive(Clone, Copy)]
 pub enum RowAnswer {
     Accepted,
     FrameBroken,
@@ -30,7 +30,7 @@ pub fn row_number(answer: RowAnswer) -> u32
 }
 
 // Find's answer: yes or no, with the number of indices read, or a refusal.
-#[derive(Drop)]
+#[derive(Clone, Copy)]
 pub enum Found {
     Searched { yes: bool, read: usize },
     FrameBroken,
@@ -42,7 +42,7 @@ pub enum Found {
 }
 
 // Write's answer: the file's length, or a refusal.
-#[derive(Drop)]
+#[derive(Clone, Copy)]
 pub enum Written {
     Bytes(usize),
     FrameBroken,
@@ -51,7 +51,7 @@ pub enum Written {
 }
 
 // Euler's answer: the Euler number, or a refusal.
-#[derive(Drop)]
+#[derive(Clone, Copy)]
 pub enum EulerNumber {
     Number(i64),
     FrameBroken,
@@ -60,7 +60,7 @@ pub enum EulerNumber {
 }
 
 // Held count's answer: the number of relations held, or a refusal.
-#[derive(Drop)]
+#[derive(Clone, Copy)]
 pub enum Counted {
     Relations(u32),
     FrameBroken,

@@ -1,4 +1,6 @@
 // Calls that leave the book as it is: Row, Find, Write, the Euler number and the held count. `daybook` has them beside Load, Make, Ask, the list of asks, Drop, phase closures, boxes, salvage, the sheet profile and the plain engine.
+#![tactic(auto)]
+
 mod answers;
 mod finds;
 mod numbers;

@@ -1,4 +1,6 @@
 // Rows of equally many words: the lowest row that equals an earlier one. A row is looked for among those of its bucket, which all its words decide, and compared word by word.
+#![tactic(auto)]
+
 ghost use Rattle.std.specs.Prelude.{◌≡◌, true, false, ℕ, suc, ◌+◌, ◌*◌, ◌≤◌, ◌<◌, length};
 ghost use Rattle.rules.specs.Lists.{any_of, same, first_repeated};
 ghost use Rattle.rules.specs.Chains.{Links, Chains};

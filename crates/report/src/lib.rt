@@ -1,5 +1,7 @@
 // The report: the lines that dayreport prints for a book, on a refusal and on a file that is too long, put into lent bytes; and the parts of a line, of which daysalvage makes its own.
 // A store past the end of the bytes does nothing.
+#![tactic(auto)]
+
 ghost use Rattle.std.specs.Prelude.{◌≡◌, cond, [], ◌∷◌, map, ℕ, ◌+◌, ◌≤◌, ◌<◌, length};
 ghost use Rattle.rules.specs.Lists.{up_to, joined};
 ghost use Rattle.rules.specs.Book as rule;

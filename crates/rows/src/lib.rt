@@ -1,4 +1,6 @@
 // The row rule, relation by relation in book order, with where it is first seen to break; and a row as a part of the book.
+#![tactic(auto)]
+
 ghost use Rattle.std.specs.Prelude.{◌≡◌, true, not, ◌&&◌, ℕ, ◌+◌, ◌-◌, ◌*◌, ◌/◌, ◌%◌, ◌≤◌, ◌<◌, min, length, get_or, drop, eqb, ltb};
 ghost use Rattle.rules.specs.Lists.{up_to, all_of, ascends, first_at, first_repeated};
 ghost use Rattle.rules.specs.Book as rule;
@@ -11,14 +13,14 @@ use book::{Place, behind, count, dim, held, key, place_of, word};
 use repeats::first_repeated;
 
 // Where a book breaks the row rule: the key of a relation and a position in it, offsets counted before indices; with key 16 a free word's distance from the used length.
-#[derive(Drop)]
+#[derive(Clone, Copy)]
 pub struct Broken {
     pub key: u32,
     pub position: usize,
 }
 
 // The row rule's answer.
-#[derive(Drop)]
+#[derive(Clone, Copy)]
 pub enum Rows {
     Right,
     BrokenAt(Broken),

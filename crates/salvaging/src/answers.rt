@@ -1,7 +1,7 @@
 // What salvage answers: what was saved and what was wrong, or one of its refusals.
 
 // What was saved of a file: the length written, how many cells were dropped, and whether spare bits were set, pad bits were set, or the length was not the one that the header asks.
-#[derive(Drop)]
+#[derive(Clone, Copy)]
 pub struct Saved {
     pub length: usize,
     pub dropped: usize,
@@ -11,7 +11,7 @@ pub struct Saved {
 }
 
 // The answer.
-#[derive(Drop)]
+#[derive(Clone, Copy)]
 pub enum Salvaged {
     Saved(Saved),
     Short,

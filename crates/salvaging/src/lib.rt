@@ -1,4 +1,6 @@
 // Salvage: of a day file whose head is right, the cells that can be saved, written as a file that Load accepts, and a list of those that are dropped.
+#![tactic(auto)]
+
 mod answers;
 mod cells;
 mod listing;

@@ -1,4 +1,6 @@
 // Words moved within the book: a relation that was written behind the used words goes to its place by key, one is taken out, and words that are free are set to 0.
+#![tactic(auto)]
+
 ghost use Rattle.std.specs.Prelude.{◌≡◌, ◌+◌, ◌-◌, ◌^◌, ◌≤◌, ◌<◌, min, length, get_or};
 ghost use Rattle.rules.specs.Steps.{given_back};
 ghost use Rattle.settle.specs.Settled.{Within, Exchanged, Raised, Saved, PutBack, settled, Zeroed, cleared, headed, lowered, closed_up, Leaves, Kept};

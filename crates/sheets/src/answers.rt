@@ -2,7 +2,7 @@
 use rows::Broken;
 
 // The rim that was written: the length of its file, and how many vertices and edges it has.
-#[derive(Drop)]
+#[derive(Clone, Copy)]
 pub struct Rim {
     pub length: usize,
     pub vertices: usize,
@@ -10,7 +10,7 @@ pub struct Rim {
 }
 
 // Why a book is not a sheet: D is not 2; the lowest vertex in no cell; the lowest edge that has not one or two cells; the lowest cell whose row is not three edges that list it.
-#[derive(Drop)]
+#[derive(Clone, Copy)]
 pub enum NotSheet {
     Dimension,
     Vertex(u32),
@@ -19,7 +19,7 @@ pub enum NotSheet {
 }
 
 // The answer.
-#[derive(Drop)]
+#[derive(Clone, Copy)]
 pub enum Sheeted {
     Sheet(Rim),
     FrameBroken,
@@ -32,7 +32,7 @@ pub enum Sheeted {
 }
 
 // What the entities of a right book with D = 2 show: a sheet, or why it is not one.
-#[derive(Drop)]
+#[derive(Clone, Copy)]
 pub enum Tested {
     Sheet,
     Off(NotSheet),

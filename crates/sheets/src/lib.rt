@@ -1,4 +1,6 @@
 // The sheet profile: for a book that is a sheet, the cell across each edge of each cell, and the rim as a day file of its own, with maps back to the old vertices and edges.
+#![tactic(auto)]
+
 mod answers;
 mod others;
 mod rims;

@@ -6,7 +6,7 @@ ghost use Rattle.sheets.specs.Stands.{Stands};
 use book::Place;
 
 // The relation of a key: where its offsets begin, and where its indices do.
-#[derive(Drop)]
+#[derive(Clone, Copy)]
 pub struct Stand {
     pub key: u32,
     pub offsets: Place,

@@ -1,4 +1,6 @@
 // What the program daysalvage writes for a file, and what it tells people.
+#![tactic(auto)]
+
 mod ends;
 mod puts;
 mod runs;
@@ -14,7 +16,7 @@ use report::refused;
 pub use runs::{Run, tell_run};
 
 // What is known of a file once it is answered: the refusal's number, or 0; the length of what is written; the cells by the header, and how many of them were kept and dropped; whether spare bits were set, pad bits were set, or the length was not the one that the header asks.
-#[derive(Drop)]
+#[derive(Clone, Copy)]
 pub struct Outcome {
     pub number: u32,
     pub length: u32,

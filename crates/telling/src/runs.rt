@@ -8,7 +8,7 @@ use crate::puts::{put_cells, put_reason};
 use report::{put_number, put_text};
 
 // A run's line: how many cells it is about, and its length.
-#[derive(Drop)]
+#[derive(Clone, Copy)]
 pub struct Run {
     pub cells: usize,
     pub length: usize,
