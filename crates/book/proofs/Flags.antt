@@ -1,10 +1,9 @@
--- A flag that a call gave, after a test of its opposite.
+-- A flag that a call gave, after a test of it.
 use mathlib.Core.Path.{◌≡◌, sym, ◌∙◌}
-use mathlib.Core.Bool.{Bool, true, false, not}
-use borrow.Author.Tests.{not-true, not-false}
+use mathlib.Core.Bool.{Bool, true, false}
 
-pub off : {b h : Bool} → b ≡ h → not b ≡ true → h ≡ false
-off {b} e t = sym e ∙ not-true b t
+pub off : {b h : Bool} → b ≡ h → b ≡ false → h ≡ false
+off e t = sym e ∙ t
 
-pub on : {b h : Bool} → b ≡ h → not b ≡ false → h ≡ true
-on {b} e t = sym e ∙ not-false b t
+pub on : {b h : Bool} → b ≡ h → b ≡ true → h ≡ true
+on e t = sym e ∙ t
