@@ -1,0 +1,9 @@
+-- The line of a relation: its four fields, each put behind the last, and the newline.
+use Rattle.report.proofs.Texts.{put-relation-line}
+use Rattle.report.proofs.put_relation.Goals as goal
+
+pub returns : goal.returns
+returns c =
+    let a = c.args in
+    put-relation-line a.book.now a.k c.count.result c.total.result c.count.ensures c.total.ensures
+    c.put_number-from.ensures c.put_field-to.ensures c.put_field-rows.ensures c.put_field-indices.ensures c.put_byte.ensures

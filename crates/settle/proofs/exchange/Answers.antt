@@ -1,0 +1,25 @@
+-- The words passed are exchanged, and the rest stands. The measure is what is left of the count.
+use mathlib.Core.Path.{◌≡◌}
+use Prim.Native.Nat.{◌-◌}
+use native.Mathlib.Omega.{arith}
+use lib.ListN.{length-set}
+use Rattle.settle.proofs.Moves.{exchanged-none, exchanged-more}
+use Rattle.settle.proofs.exchange.Goals as goal
+
+pub loop-done-init : goal.loop-done-init
+loop-done-init c = (exchanged-none _ _ _, omega arith)
+
+pub bounds-book-j-in-loop-done : goal.bounds-book-j-in-loop-done
+bounds-book-j-in-loop-done c = simp length-set (omega arith)
+
+pub loop-done-preserved : goal.loop-done-preserved
+loop-done-preserved c = let l = c.loop-done in
+    (exchanged-more _ _ _ _ l.book l.invariant.0 (omega arith) (omega (arith, l.invariant.0.size)), omega arith)
+
+pub shape_of-book : goal.shape_of-book
+shape_of-book c = c.loop-done.invariant.0.size
+
+pub returns : goal.returns
+returns c = let l = c.loop-done in
+    let e : l.done ≡ c.args.count = omega (arith, l.invariant.1, c.loop-done-test.false) in
+    rw e at l.invariant.0
