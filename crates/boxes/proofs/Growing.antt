@@ -39,18 +39,18 @@ module _ (axes : ℕ) (coordinates : List Float) where
   ends-grown b (v ∷ vs) = ends-grown (grown_by b (point_of axes coordinates v)) vs
 
   -- the box that the vertices from place i on still make of b
-  abbrev pub grownFrom : Bounds → List ℕ → ℕ → Bounds
-  grownFrom b vs i = grown_by_all b (points (drop i vs))
+  abbrev pub grown_from : Bounds → List ℕ → ℕ → Bounds
+  grown_from b vs i = grown_by_all b (points (drop i vs))
 
   -- the next vertex grows it
-  pub grown-next : (b : Bounds) (vs : List ℕ) (i : ℕ) → i < length vs → grownFrom (grown_by b (point_of axes coordinates (get_or vs i 0))) vs (i + 1) ≡ grownFrom b vs i
+  pub grown-next : (b : Bounds) (vs : List ℕ) (i : ℕ) → i < length vs → grown_from (grown_by b (point_of axes coordinates (get_or vs i 0))) vs (i + 1) ≡ grown_from b vs i
   unfolding grown_by_all
   grown-next b vs i h = rw (add-one, drop-cons vs i 0)
 
   -- where none is left, and all have made the box that is wanted, it has the ends that the rules give
-  pub grown-last : (b : Bounds) (vs : List ℕ) (i : ℕ) → length vs ≤ i → grownFrom b vs i ≡ grownFrom (begins_as (point_of axes coordinates (get_or vs 0 0))) vs 1 → 0 < length vs → ends_of b ≡ box_over axes coordinates vs
+  pub grown-last : (b : Bounds) (vs : List ℕ) (i : ℕ) → length vs ≤ i → grown_from b vs i ≡ grown_from (begins_as (point_of axes coordinates (get_or vs 0 0))) vs 1 → 0 < length vs → ends_of b ≡ box_over axes coordinates vs
   unfolding box_over ends_along begins_as point_of grown_by_all
   grown-last b [] i h e l = absurd (omega arith)
   grown-last b (v ∷ vs) i h e l =
-      let none : b ≡ grownFrom b (v ∷ vs) i = sym (ap (λ (us : List ℕ). grown_by_all b (points us)) (drop_of_length-le (v ∷ vs) h)) in
+      let none : b ≡ grown_from b (v ∷ vs) i = sym (ap (λ (us : List ℕ). grown_by_all b (points us)) (drop_of_length-le (v ∷ vs) h)) in
       ap ends_of (none ∙ e) ∙ ends-grown (begins_as (point_of axes coordinates v)) vs

@@ -1,0 +1,12 @@
+-- The invariant: the candidate is among the entities before the walk's place exactly where it is among all.
+use Prim.Native.Nat.{◌-◌}
+use lib.ListN.{get_or}
+use Rattle.repeats.proofs.Walked.{Walking}
+use Rattle.building.specs.Sets.{entity, lowest}
+use Rattle.building.proofs.meet.met_before.Given as goal
+
+abbrev pub invariant-loop-p : goal.invariant-loop-p
+invariant-loop-p l = Walking (lowest l.sets) (get_or l.candidate 0 0) (entity l.sets) l.candidate l.from l.p
+
+abbrev pub decreases-loop-p : goal.decreases-loop-p
+decreases-loop-p l = l.p

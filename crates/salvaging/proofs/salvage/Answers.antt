@@ -1,0 +1,76 @@
+-- The head's four faults are refusals; behind them the file is salvaged.
+use mathlib.Core.Path.{◌≡◌, refl, sym, ap, ◌∙◌}
+use mathlib.Core.Logic.{◌⊎◌, inl, inr}
+use Prim.Native.Nat.{ℕ, zero, suc, ◌<◌}
+use native.Mathlib.Omega.{arith}
+use denote.Enum.Declared.{tag_of}
+use Rattle.rules.specs.Calls.{file_number}
+use Rattle.dayfile.specs.contracts.kinds.Fault.{the_type}
+use Rattle.dayfile.specs.Faults.{fault_number, first_faults, fault_of, head_number}
+use Rattle.dayfile.proofs.HeadFaults.{head-back}
+use Rattle.salvaging.specs.declared.answers.Salvaged.TheVariants as answers
+use Rattle.salvaging.specs.Answers.{salvaged_number, salvaged_given}
+use Rattle.salvaging.proofs.Answered.{head-refused, head-own, headed, refused}
+use Rattle.salvaging.proofs.salvage.Goals as goal
+
+-- the cases of a fault that are none of the head's four
+none_of_four : (x : ℕ) → (x ≡ 0) ⊎ ((x ≡ 5) ⊎ ((x ≡ 6) ⊎ ((x ≡ 7) ⊎ ((x ≡ 8) ⊎ ((x ≡ 9) ⊎ (x ≡ 10)))))) → (k : ℕ) → 0 < k → k < 5 → x ≡ k → ⊥
+none_of_four x (inl p) k l m e = omega arith
+none_of_four x (inr (inl p)) k l m e = omega arith
+none_of_four x (inr (inr (inl p))) k l m e = omega arith
+none_of_four x (inr (inr (inr (inl p)))) k l m e = omega arith
+none_of_four x (inr (inr (inr (inr (inl p))))) k l m e = omega arith
+none_of_four x (inr (inr (inr (inr (inr (inl p)))))) k l m e = omega arith
+none_of_four x (inr (inr (inr (inr (inr (inr p)))))) k l m e = omega arith
+
+-- the case of each of them is its number
+case-of : (k : ℕ) → 0 < k → k < 5 → tag_of the_type (fault_of k 0) ≡ k
+unfolding fault_of first_faults
+case-of zero l m = absurd (omega arith)
+case-of (suc zero) l m = refl
+case-of (suc (suc zero)) l m = refl
+case-of (suc (suc (suc zero))) l m = refl
+case-of (suc (suc (suc (suc zero)))) l m = refl
+case-of (suc (suc (suc (suc (suc k))))) l m = absurd (omega arith)
+
+pub save-requires : goal.save-requires
+save-requires c =
+    let m = c in
+    let f = c.args.file.now in
+    headed f (λ k l h e. none_of_four _ m.in_default.keys5 k l h (rw (m.head_fault.ensures, e) (case-of k l h)))
+
+pub returns-in-Short : goal.returns-in-Short
+unfolding salvaged_number salvaged_given fault_number
+returns-in-Short c =
+    let told : fault_number c.head_fault.result ≡ head_number c.args.file.now =
+    ap fault_number c.head_fault.ensures ∙ head-back c.args.file.now in
+    let a = c.args in
+    let f = a.file.now in
+    let n : file_number f ≡ 1 = head-own f 1 (omega arith) (sym (told) ∙ ap fault_number c.in-Short.is) in let all = refused f a.out.now a.dropped.now answers.Short 1 refl refl (λ z. omega arith) (head-refused f a.out.now a.dropped.now 1 (omega arith) (omega arith) n) in record { number = all.0; given = all.1.0; bytes = all.1.1.0; list = all.1.1.1; }
+
+pub returns-in-NoDimension : goal.returns-in-NoDimension
+unfolding salvaged_number salvaged_given fault_number
+returns-in-NoDimension c =
+    let told : fault_number c.head_fault.result ≡ head_number c.args.file.now =
+    ap fault_number c.head_fault.ensures ∙ head-back c.args.file.now in
+    let a = c.args in
+    let f = a.file.now in
+    let n : file_number f ≡ 2 = head-own f 2 (omega arith) (sym (told) ∙ ap fault_number c.in-NoDimension.is) in let all = refused f a.out.now a.dropped.now answers.NoDimension 2 refl refl (λ z. omega arith) (head-refused f a.out.now a.dropped.now 2 (omega arith) (omega arith) n) in record { number = all.0; given = all.1.0; bytes = all.1.1.0; list = all.1.1.1; }
+
+pub returns-in-ManyVertices : goal.returns-in-ManyVertices
+unfolding salvaged_number salvaged_given fault_number
+returns-in-ManyVertices c =
+    let told : fault_number c.head_fault.result ≡ head_number c.args.file.now =
+    ap fault_number c.head_fault.ensures ∙ head-back c.args.file.now in
+    let a = c.args in
+    let f = a.file.now in
+    let n : file_number f ≡ 3 = head-own f 3 (omega arith) (sym (told) ∙ ap fault_number c.in-ManyVertices.is) in let all = refused f a.out.now a.dropped.now answers.ManyVertices 3 refl refl (λ z. omega arith) (head-refused f a.out.now a.dropped.now 3 (omega arith) (omega arith) n) in record { number = all.0; given = all.1.0; bytes = all.1.1.0; list = all.1.1.1; }
+
+pub returns-in-ManyCells : goal.returns-in-ManyCells
+unfolding salvaged_number salvaged_given fault_number
+returns-in-ManyCells c =
+    let told : fault_number c.head_fault.result ≡ head_number c.args.file.now =
+    ap fault_number c.head_fault.ensures ∙ head-back c.args.file.now in
+    let a = c.args in
+    let f = a.file.now in
+    let n : file_number f ≡ 4 = head-own f 4 (omega arith) (sym (told) ∙ ap fault_number c.in-ManyCells.is) in let all = refused f a.out.now a.dropped.now answers.ManyCells 4 refl refl (λ z. omega arith) (head-refused f a.out.now a.dropped.now 4 (omega arith) (omega arith) n) in record { number = all.0; given = all.1.0; bytes = all.1.1.0; list = all.1.1.1; }
