@@ -163,25 +163,4 @@ faced c =
 pub returns : goal.returns
 unfolding frame_right
 returns c =
-    let long : frame_right c.args.book.now ≡ fromHead c.args.book.now =
-    let b = c.args.book.now in
-    rw (le-leb 5 (length b) c.if-book-lt5.false) in
-    let headed : frame_right c.args.book.now ≡ fromKeys c.args.book.now =
-    let b = c.args.book.now in
-    let h : head_right (get_or b 0 0) ≡ true = on (c.head_right.ensures ∙ ap head_right c.word.ensures) c.if-not-head_right.false in
-    long ∙ rw h in
-    let masked : frame_right c.args.book.now ≡ fromEachKey c.args.book.now =
-    let b = c.args.book.now in
-    let e = c.word-2.ensures in
-    headed ∙ rw (lt-ltb (get_or b 1 0) (2 ^ 16) (omega (arith, e, c.if-word-ge65536.false))) in
-    let keyed : frame_right c.args.book.now ≡ fromCells c.args.book.now =
-    let b = c.args.book.now in
-    masked ∙ rw (on c.keys_right.ensures c.if-not-keys_right.false) in
-    let celled : frame_right c.args.book.now ≡ fromEdges c.args.book.now =
-    let b = c.args.book.now in
-    let h : held b (key (dim b) 0) ≡ true = on (c.held.ensures ∙ ap (held b) (c.key.ensures ∙ ap (λ D. key D 0) c.dim.ensures)) c.if-not-held.false in
-    keyed ∙ rw h in
-    let edged : frame_right c.args.book.now ≡ fromFaces c.args.book.now =
-    let b = c.args.book.now in
-    celled ∙ rw (on c.count_right.ensures c.if-not-count_right.false) in
     c.used_right.ensures ∙ sym (faced c)

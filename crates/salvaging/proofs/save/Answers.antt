@@ -188,8 +188,6 @@ returns c =
     ltb-false _ _ (ap (ltb (length c.args.out.now)) (sym (length-is)) ∙ le-ltb _ _ c.if-buffer_short.false) in
     let places : 2 * file_cells c.args.file.now ≤ length c.args.dropped.now =
     ltb-false _ _ (ap (λ (n : ℕ). ltb (length c.args.dropped.now) (2 * n)) (sym (count-is)) ∙ le-ltb _ _ c.if-list_short.false) in
-    let dimension-is : c.dimension.result ≡ file_dim c.args.file.now =
-    c.dimension.ensures ∙ ap head_dim (head-is) ∙ head-dim c.args.file.now in
     let s = c in
     let a = s.args in
     let f = a.file.now in
