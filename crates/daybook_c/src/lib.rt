@@ -54,13 +54,7 @@ pub fn daybook_load(file: &[u8], book: &mut [u32], cell: &mut u32) -> u32
 }
 
 // Makes d→e from what the book stores.
-pub fn daybook_make(
-    book: &mut [u32],
-    d: u32,
-    e: u32,
-    key: &mut u32,
-    position: &mut usize,
-) -> u32
+pub fn daybook_make(book: &mut [u32], d: u32, e: u32, key: &mut u32, position: &mut usize) -> u32
     ensures number { result ≡ make_number book.old d e }
     ensures key { key.new ≡ cond (eqb result 11) (broken_key book.old) key.old }
     ensures position { position.new ≡ cond (eqb result 11) (broken_place book.old) position.old }
@@ -83,13 +77,7 @@ pub fn daybook_make(
 }
 
 // Makes d→e and, as far as missing, everything it is made from, or nothing at all.
-pub fn daybook_ask(
-    book: &mut [u32],
-    d: u32,
-    e: u32,
-    key: &mut u32,
-    position: &mut usize,
-) -> u32
+pub fn daybook_ask(book: &mut [u32], d: u32, e: u32, key: &mut u32, position: &mut usize) -> u32
     ensures number { result ≡ ask_number book.old d e }
     ensures key { key.new ≡ cond (eqb result 11) (broken_key book.old) key.old }
     ensures position { position.new ≡ cond (eqb result 11) (broken_place book.old) position.old }
@@ -122,13 +110,7 @@ pub fn daybook_ask_list(book: &mut [u32], pairs: &[u32], answers: &mut [u32]) ->
 }
 
 // Takes d→e out of the book and gives back its room; with 11 the key and the position are written.
-pub fn daybook_drop(
-    book: &mut [u32],
-    d: u32,
-    e: u32,
-    key: &mut u32,
-    position: &mut usize,
-) -> u32
+pub fn daybook_drop(book: &mut [u32], d: u32, e: u32, key: &mut u32, position: &mut usize) -> u32
     ensures number { result ≡ drop_number book.old d e }
     ensures key { key.new ≡ cond (eqb result 11) (broken_key book.old) key.old }
     ensures position { position.new ≡ cond (eqb result 11) (broken_place book.old) position.old }
@@ -265,12 +247,7 @@ pub fn daybook_write(
 }
 
 // The Euler number, written where accepted.
-pub fn daybook_euler(
-    book: &[u32],
-    number: &mut i64,
-    key: &mut u32,
-    position: &mut usize,
-) -> u32
+pub fn daybook_euler(book: &[u32], number: &mut i64, key: &mut u32, position: &mut usize) -> u32
     ensures number { result ≡ euler_number book.now }
     ensures key { key.new ≡ cond (eqb result 11) (broken_key book.now) key.old }
     ensures position { position.new ≡ cond (eqb result 11) (broken_place book.now) position.old }

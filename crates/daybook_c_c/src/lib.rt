@@ -259,7 +259,20 @@ pub extern "C" fn daybook_sheet(
     ensures old_vertices { rim_vertices.new ≡ sheet_vertices book.now across.old rim.old rim_vertices.old rim_edges.old }
     ensures old_edges { rim_edges.new ≡ sheet_edges book.now across.old rim.old rim_vertices.old rim_edges.old }
 {
-    daybook_c::daybook_sheet(book, across, rim, rim_vertices, rim_edges, rim_length, vertex_count, edge_count, why, which, key, position)
+    daybook_c::daybook_sheet(
+        book,
+        across,
+        rim,
+        rim_vertices,
+        rim_edges,
+        rim_length,
+        vertex_count,
+        edge_count,
+        why,
+        which,
+        key,
+        position,
+    )
 }
 
 // Whether (e, j) is incident to (d, i), from the cells' vertex sets alone: where accepted, 1 or 0 is written; with 11 the key and the position.

@@ -45,5 +45,7 @@ fn main(rt: HostRuntime) -> Result<(), Failure> {
     let mut out = [0u8; 764];
     let size = read_full(&mut rt.stdin(), &mut file).map_err(Failure::Input)?;
     let length = answering::answer(&file[..size], &mut book, &mut out);
-    rt.stdout().write_all(&out[..length]).map_err(Failure::Output)
+    rt.stdout()
+        .write_all(&out[..length])
+        .map_err(Failure::Output)
 }

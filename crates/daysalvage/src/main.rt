@@ -67,7 +67,9 @@ fn main(rt: HostRuntime) -> Result<(), Failure> {
     let size = read_full(&mut rt.stdin(), &mut file).map_err(Failure::Input)?;
     let outcome = telling::answer(&file[..size], &mut out, &mut dropped);
     let length = outcome.length as usize;
-    rt.stdout().write_all(&out[..length]).map_err(Failure::Output)?;
+    rt.stdout()
+        .write_all(&out[..length])
+        .map_err(Failure::Output)?;
     tell(&mut rt.stderr(), &dropped, outcome);
     Ok(())
 }

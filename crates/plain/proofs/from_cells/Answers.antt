@@ -11,7 +11,7 @@ worked_out-requires c =
     c.count.ensures ∙ ap (count c.args.book.now) c.dim-top.ensures in
     let s = c in
     let ws = s.args.book.now in
-    let e = c.dim-top.ensures in record { fact_1 = rw c.cells.ensures (read-cells ws s.requires.fact_1.0 s.requires.fact_1.1 _ _ e (count-is)); fact_2 = (rw e (framed ws s.requires.fact_1.0).low, (rw e s.requires.fact_2.0, rw e s.requires.fact_2.1)); }
+    let e = c.dim-top.ensures in record { fact_1 = rw c.cells.ensures (read-cells ws s.requires.fact_1.0 s.requires.fact_1.1 _ _ e (count-is)); fact_2 = (rw e (framed ws s.requires.fact_1.0).low, (rw e s.requires.fact_2.0, rw e s.requires.fact_2.1)) }
 
 pub returns : goal.returns
 returns c =
@@ -19,4 +19,4 @@ returns c =
     c.count.ensures ∙ ap (count c.args.book.now) c.dim-top.ensures in
     let k = c in
     let s = k in
-    let m = read-mesh s.args.book.now s.requires.fact_1.0 s.requires.fact_1.1 _ k.dim-top.ensures (count-is) k.count-2.ensures in let all = rw (k.cells.ensures, m) at c.worked_out.ensures in record { number = all.number; yes = all.yes; place = all.place; }
+    let m = read-mesh s.args.book.now s.requires.fact_1.0 s.requires.fact_1.1 _ k.dim-top.ensures (count-is) k.count-2.ensures in let all = rw (k.cells.ensures, m) at c.worked_out.ensures in record { number = all.number; yes = all.yes; place = all.place }

@@ -44,4 +44,4 @@ loop-p-preserved c =
 pub returns : goal.returns
 returns c =
     let t = c.loop-p in
-    let ws = c.args.cells.now in record { number = λ v l. t.invariant.1.number v l ∙ ap (λ (xs : List ℕ). length (keep (eqb v) xs)) (take_all t.p ws (omega (arith, c.loop-p-test.false))); length = t.invariant.1.long; }
+    let ws = c.args.cells.now in record { number = λ v l. t.invariant.1.number v l ∙ ap (λ (xs : List ℕ). length (keep (eqb v) xs)) (take_all t.p ws (omega (arith, c.loop-p-test.false))); length = t.invariant.1.long }

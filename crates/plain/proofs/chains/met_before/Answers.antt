@@ -39,7 +39,7 @@ cell_has-requires c =
     let s = c in
     let a = s.args in
     let t = c.loop-x in
-    let l = cell_below a.cells.now a.size (a.at / a.size) (get_or a.cells.now a.at 0) (take a.n a.set) (pos) (fits) (t.x - 1) (omega (arith, t.invariant.high, c.loop-x-test.true)) in record { fact_1 = (s.requires.fact_2.0, rw c.cell_of.ensures (cell-fits a.size a.cells.now ((t.x - 1) / a.size) (a.at / a.size) l (fits))); fact_2 = s.requires.fact_2.1; }
+    let l = cell_below a.cells.now a.size (a.at / a.size) (get_or a.cells.now a.at 0) (take a.n a.set) (pos) (fits) (t.x - 1) (omega (arith, t.invariant.high, c.loop-x-test.true)) in record { fact_1 = (s.requires.fact_2.0, rw c.cell_of.ensures (cell-fits a.size a.cells.now ((t.x - 1) / a.size) (a.at / a.size) l (fits))); fact_2 = s.requires.fact_2.1 }
 
 pub returns-then-cell_has : goal.returns-then-cell_has
 returns-then-cell_has c =

@@ -53,4 +53,4 @@ loop-k-preserved c =
 
 pub returns : goal.returns
 returns c =
-    let t = c.loop-k in record { member = t.invariant.1.0; least = λ j l. t.invariant.1.1 j (omega (arith, c.loop-k-test.false)); }
+    let t = c.loop-k in record { member = t.invariant.1.0; least = λ j l. t.invariant.1.1 j (omega (arith, c.loop-k-test.false)) }

@@ -8,17 +8,17 @@ use native.Mathlib.Omega.{arith}
 use Rattle.plain.proofs.numbering.seek.Goals as goal
 
 pub link-requires : goal.link-requires
-link-requires c = record { fact_1 = c.requires.fact_1.small; fact_2 = refl; }
+link-requires c = record { fact_1 = c.requires.fact_1.small; fact_2 = refl }
 
 pub count_uses-requires : goal.count_uses-requires
-count_uses-requires c = record { fact_1 = c.requires.fact_1.small; fact_2 = refl; }
+count_uses-requires c = record { fact_1 = c.requires.fact_1.small; fact_2 = refl }
 
 pub loop-c-init : goal.loop-c-init
 unfolding built
 loop-c-init c = let a = c.args in (omega arith, rw (before-none (a.sizes.dim + 1) a.cells.now) (omega arith))
 
 pub seek_in_cell-found-requires : goal.seek_in_cell-found-requires
-seek_in_cell-found-requires c = let s = c in record { fact_1 = s.requires.fact_1; fact_2 = c.link.ensures; fact_3 = (c.loop-c-test.true, s.requires.fact_2); }
+seek_in_cell-found-requires c = let s = c in record { fact_1 = s.requires.fact_1; fact_2 = c.link.ensures; fact_3 = (c.loop-c-test.true, s.requires.fact_2) }
 
 pub returns-then-found : goal.returns-then-found
 returns-then-found c =

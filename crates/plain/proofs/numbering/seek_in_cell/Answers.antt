@@ -54,7 +54,7 @@ rarest-k-requires c =
     (chosen (s.args.entity.dim + 1) cs _ (s.requires.fact_1.up s.args.c p.0) (get_or-in (choose (s.args.entity.dim + 1) cs) c.loop-q.q [] l)).within j (rw set_is at i)) in
     let s = c in
     let a = s.args in
-    let l : a.entity.dim + 1 ≤ 4 = omega (arith, s.requires.fact_1.high, s.requires.fact_3.1.1) in record { fact_1 = ((omega arith, l), c.candidate-set.ensures.1); fact_2 = set-low a.cells.now (a.sizes.dim + 1) a.c c.candidate-set.result (a.entity.dim + 1) s.requires.fact_1.small (cell-within) (omega (arith, c.candidate-set.ensures.1)) (set-inside); }
+    let l : a.entity.dim + 1 ≤ 4 = omega (arith, s.requires.fact_1.high, s.requires.fact_3.1.1) in record { fact_1 = ((omega arith, l), c.candidate-set.ensures.1); fact_2 = set-low a.cells.now (a.sizes.dim + 1) a.c c.candidate-set.result (a.entity.dim + 1) s.requires.fact_1.small (cell-within) (omega (arith, c.candidate-set.ensures.1)) (set-inside) }
 
 pub overflow_mul-at : goal.overflow_mul-at
 overflow_mul-at c =
@@ -115,7 +115,7 @@ met_before-met-requires c =
     let k = c in
     let s = k in
     let a = s.args in
-    let p = s.requires.fact_3.1 in record { fact_1 = s.requires.fact_2; fact_2 = ((omega (arith, p.0, p.1), omega (arith, s.requires.fact_1.high)), ((omega (arith, p.0), omega (arith, s.requires.fact_1.high, p.1)), k.candidate-set.ensures.1)); fact_3 = at-corner a.cells.now (a.sizes.dim + 1) a.c k.cell_at-cell.result k.candidate-set.result (a.entity.dim + 1) c.rarest-k.result c.corner_of.result (cell-within) k.cell_at-cell.ensures.0 c.corner_of.ensures c.rarest-k.ensures.member (set_long) (set-inside); }
+    let p = s.requires.fact_3.1 in record { fact_1 = s.requires.fact_2; fact_2 = ((omega (arith, p.0, p.1), omega (arith, s.requires.fact_1.high)), ((omega (arith, p.0), omega (arith, s.requires.fact_1.high, p.1)), k.candidate-set.ensures.1)); fact_3 = at-corner a.cells.now (a.sizes.dim + 1) a.c k.cell_at-cell.result k.candidate-set.result (a.entity.dim + 1) c.rarest-k.result c.corner_of.result (cell-within) k.cell_at-cell.ensures.0 c.corner_of.ensures c.rarest-k.ensures.member (set_long) (set-inside) }
 
 pub returns-then-is_it : goal.returns-then-is_it
 returns-then-is_it c =
