@@ -8,8 +8,8 @@ use Prim.Native.Nat.{ℕ, ◌+◌, ◌-◌, ◌<◌}
 use native.Mathlib.Omega.{arith}
 use lib.ListN.{length, get_or, take, replicate, length-append, length-replicate}
 use lib.Seq.{take_at}
-use Rattle.rules.specs.Lists.{any_of, same, choose}
-use Rattle.rules.specs.Made.{met, met_all, built}
+use Rattle.rules.specs.Lists.{any_of, same}
+use Rattle.rules.specs.Made.{met, met_all}
 use Rattle.rules.proofs.Tests.{agree, same-is, same_refl}
 use Rattle.rules.proofs.Numbered.{any-map, any-agree}
 use Rattle.building.specs.Sets.{padded}

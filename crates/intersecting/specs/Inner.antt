@@ -1,5 +1,5 @@
 -- The rows of d→e, d > e > 0.
-use Rattle.std.specs.Prelude.{Bool, ◌&&◌, List, ℕ, ◌-◌}
+use Rattle.std.specs.Prelude.{Bool, ◌&&◌, List, ℕ}
 use Rattle.rules.specs.Lists.{up_to, keep, inside}
 use Rattle.relations.specs.Words.{part, row_at}
 use Rattle.rules.specs.Made.{listed_at}

@@ -1,6 +1,6 @@
 -- In each turn the box is lent to `grow` and comes back grown by the next vertex; where none is left, its ends are those of the rules.
-use Rattle.std.proofs.Common.{refl, ap, ◌∙◌, arith}
-use Rattle.boxes.proofs.Growing.{grown_from, grown-next, grown-last}
+use Rattle.std.proofs.Common.{◌∙◌, arith}
+use Rattle.boxes.proofs.Growing.{grown-next, grown-last}
 use Rattle.boxes.proofs.box_over.Goals as goal
 
 pub loop-i-init : goal.loop-i-init

@@ -1,5 +1,5 @@
 -- The invariant: the box that the vertices from place i on still make of the one in the local is the box that is wanted.
-use Rattle.std.proofs.Common.{◌≡◌, ◌-◌, ◌≤◌, length, get_or}
+use Rattle.std.proofs.Common.{◌≡◌, ◌-◌, length, get_or}
 use Rattle.boxes.specs.Growing.{point_of, begins_as}
 use Rattle.boxes.proofs.Growing.{grown_from}
 use Rattle.boxes.proofs.box_over.Given as goal

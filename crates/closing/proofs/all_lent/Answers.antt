@@ -1,7 +1,5 @@
 -- `closing::all_lent` meets its contract. The invariant: the counts so far may be lent.
 use mathlib.Core.Path.{◌≡◌, refl, sym, ap, ◌∙◌}
-use mathlib.Core.Bool.{true}
-use Prim.Native.Nat.{◌-◌}
 use native.Mathlib.Omega.{arith}
 use lib.ListN.{get_or, take}
 use lib.Seq.{take_all}

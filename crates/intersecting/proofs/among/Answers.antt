@@ -1,6 +1,6 @@
 -- The invariant: whether x is in the part is whether it is in what is left of it.
 use mathlib.Core.Path.{sym, ap, ◌∙◌}
-use Prim.Native.Nat.{◌-◌, ◌+◌}
+use Prim.Native.Nat.{◌+◌}
 use Rattle.rules.specs.Lists.{has}
 use Rattle.intersecting.proofs.Inside.{part-whole, has_here, has-next, has-none}
 use native.Mathlib.Omega.{arith}

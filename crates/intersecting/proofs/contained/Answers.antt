@@ -1,7 +1,7 @@
 -- The invariant: whether the part lies inside is whether what is left of it does.
 use mathlib.Core.Path.{sym, ap, ◌∙◌}
 use mathlib.Core.List.{List}
-use Prim.Native.Nat.{ℕ, ◌-◌, ◌+◌}
+use Prim.Native.Nat.{ℕ, ◌+◌}
 use Rattle.rules.specs.Lists.{inside}
 use Rattle.relations.specs.Words.{part}
 use Rattle.intersecting.proofs.Inside.{part-whole, inside-not, inside-next, inside-all}

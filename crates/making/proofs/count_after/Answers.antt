@@ -1,6 +1,5 @@
 -- Case by case, as N_x after a make is defined.
 use mathlib.Core.Path.{◌∙◌}
-use mathlib.Core.Logic.{⊎_elim}
 use native.Mathlib.Omega.{arith}
 use Rattle.making.proofs.Grown.{count-new, count-level, count-other, count-cells}
 use Rattle.making.proofs.count_after.Goals.{then-e-eq0+then-d-x+else-d-dim, then-e-eq0+else-d-x, else-e-eq0}

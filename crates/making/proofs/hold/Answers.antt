@@ -1,7 +1,6 @@
 -- Every make keeps the book on the way to k, and the sum of powers of two grows, which stays below 2^16.
 use mathlib.Core.Bool.{not}
 use mathlib.Core.Path.{◌∙◌, ap}
-use Prim.Native.Nat.{◌-◌}
 use Rattle.making.proofs.Reached.{begins, near, next-same, done, makable, stuck, further, less}
 use Rattle.making.proofs.hold.Goals as goal
 

@@ -1,7 +1,6 @@
 -- Every step keeps the mask at the end, and the mask grows, which stays below 2^16.
 use mathlib.Core.Bool.{not}
 use mathlib.Core.Path.{refl, ◌∙◌, ap}
-use Prim.Native.Nat.{◌-◌}
 use native.Mathlib.Omega.{arith}
 use Rattle.making.proofs.Differing.{key-near, ends, next-near, more-small, more, more_same}
 use Rattle.making.proofs.mask_with.Goals as goal

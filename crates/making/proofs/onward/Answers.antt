@@ -2,13 +2,12 @@
 use borrow.Author.Rules.{rules}
 use mathlib.Core.Bool.{not}
 use mathlib.Core.Path.{◌≡◌, refl, ◌∙◌, ap}
-use Prim.Native.Nat.{◌/◌, ◌%◌, ◌-◌}
+use Prim.Native.Nat.{◌/◌, ◌%◌}
 use native.Mathlib.Omega.{arith}
 use lib.ListN.{length}
 use Rattle.rules.specs.Book.{named, needs}
 use Rattle.rules.specs.Steps.{onward}
 use Rattle.making.proofs.Walk.{first-none, three-most, stops, goes}
-use borrow.Author.Rules as author
 use Rattle.making.proofs.onward.Goals as goal
 
 pub needs_of-needs-requires : goal.needs_of-needs-requires

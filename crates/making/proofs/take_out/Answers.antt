@@ -1,5 +1,4 @@
 -- What is behind the relation moves down, and the head names what is left.
-use Prim.Native.Nat.{◌-◌}
 use native.Mathlib.Omega.{arith}
 use mir.Syntax.{w32}
 use mir.Val.{Fits}

@@ -1,7 +1,7 @@
 -- The invariant is `Filled`: i rows and i + 1 offsets are written; and no stamp is above i. The measure is the rows left.
 use mathlib.Core.Path.{◌≡◌}
 use mathlib.Core.List.{List}
-use Prim.Native.Nat.{ℕ, ◌-◌, min}
+use Prim.Native.Nat.{ℕ, min}
 use lib.ListN.{length, length-replicate}
 use native.Mathlib.Omega.{arith}
 use Rattle.merging.specs.Near.{near_row}

@@ -1,6 +1,6 @@
 -- The invariant: the vertices of the blocks so far that bear the stamp are written.
 use mathlib.Core.Path.{◌≡◌, refl, ◌∙◌}
-use Prim.Native.Nat.{◌+◌, ◌*◌, ◌-◌}
+use Prim.Native.Nat.{◌+◌, ◌*◌}
 use native.Mathlib.Omega.{arith}
 use Rattle.rules.specs.Lists.{up_to, keep}
 use Rattle.rules.proofs.Numbered.{length-up_to}

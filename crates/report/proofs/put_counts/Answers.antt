@@ -1,6 +1,6 @@
 -- The counts of the dimensions below d are put; d goes up to D.
 use mathlib.Core.Path.{◌≡◌}
-use Prim.Native.Nat.{ℕ, ◌+◌, ◌-◌, ◌*◌, ◌≤◌}
+use Prim.Native.Nat.{ℕ, ◌+◌, ◌*◌, ◌≤◌}
 use native.Mathlib.Omega.{arith}
 use Rattle.rules.specs.Lists.{up_to}
 use Rattle.rules.specs.Book.{dim, count}

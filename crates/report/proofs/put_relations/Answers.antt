@@ -1,6 +1,6 @@
 -- The lines of the relations held with keys below k are put.
 use mathlib.Core.Path.{◌≡◌}
-use Prim.Native.Nat.{◌+◌, ◌-◌, ◌*◌}
+use Prim.Native.Nat.{◌+◌, ◌*◌}
 use native.Mathlib.Omega.{arith}
 use Rattle.rules.specs.Lists.{up_to, keep, joined}
 use Rattle.rules.specs.Book.{held, keys_held}

@@ -1,7 +1,6 @@
 -- A text: after i turns its first i bytes are put.
 use Rattle.report.proofs.Putting.{put-wide}
 use mathlib.Core.Path.{◌≡◌}
-use Prim.Native.Nat.{◌-◌}
 use native.Mathlib.Omega.{arith}
 use lib.ListN.{length}
 use lib.Seq.{take_all}

@@ -1,6 +1,5 @@
 -- The words passed are exchanged, and the rest stands. The measure is what is left of the count.
 use mathlib.Core.Path.{◌≡◌}
-use Prim.Native.Nat.{◌-◌}
 use native.Mathlib.Omega.{arith}
 use lib.ListN.{length-set}
 use Rattle.settle.proofs.Moves.{exchanged-none, exchanged-more}

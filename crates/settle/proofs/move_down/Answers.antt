@@ -1,6 +1,5 @@
 -- The words passed stand at their new places, and those still to be moved stand as they were.
 use mathlib.Core.Path.{◌≡◌}
-use Prim.Native.Nat.{◌-◌}
 use native.Mathlib.Omega.{arith}
 use Rattle.settle.proofs.Lowering.{lowering-none, lowering-more, lowering-all}
 use Rattle.settle.proofs.move_down.Goals as goal

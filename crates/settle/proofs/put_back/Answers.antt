@@ -1,6 +1,5 @@
 -- The words passed are put back, and the rest stands. The measure is what is left of the count.
 use mathlib.Core.Path.{◌≡◌}
-use Prim.Native.Nat.{◌-◌}
 use native.Mathlib.Omega.{arith}
 use Rattle.settle.proofs.Moves.{put-none, put-more}
 use Rattle.settle.proofs.put_back.Goals as goal

@@ -1,6 +1,5 @@
 -- The words passed are in the copy. The measure is what is left of the count.
 use mathlib.Core.Path.{◌≡◌, refl, ◌∙◌}
-use Prim.Native.Nat.{◌-◌}
 use native.Mathlib.Omega.{arith}
 use lib.ListN.{length-set}
 use Rattle.settle.proofs.Moves.{saved-none, saved-more}

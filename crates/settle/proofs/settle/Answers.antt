@@ -1,6 +1,6 @@
 -- What is left to settle gives the words wanted. The measure is what lies between the front and the end.
 use mathlib.Core.Path.{◌∙◌}
-use Prim.Native.Nat.{◌-◌, ◌≤◌}
+use Prim.Native.Nat.{◌≤◌}
 use native.Mathlib.Omega.{arith}
 use lib.ListN.{length}
 use Rattle.settle.proofs.Settling.{settling-none, settling-all, settling-part}

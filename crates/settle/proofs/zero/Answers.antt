@@ -1,7 +1,6 @@
 -- The words passed are 0, and the others stand. The measure is what is left to the last place.
 use mathlib.Core.Path.{refl}
 use mathlib.Core.Logic.{inl, inr}
-use Prim.Native.Nat.{◌-◌}
 use native.Mathlib.Omega.{arith}
 use Rattle.settle.proofs.Clearing.{zeroed-none, zeroed-more, zeroed-all}
 use Rattle.settle.proofs.zero.Goals as goal

@@ -1,9 +1,6 @@
 -- `boxes::coordinates::all_finite` meets its contract. The invariant: the coordinates so far are finite.
 use mathlib.Core.Path.{refl, sym, ap, ◌∙◌}
-use mathlib.Core.Bool.{true}
-use Prim.Native.Nat.{◌-◌}
 use native.Mathlib.Omega.{arith}
-use borrow.Author.Tests.{not-true, not-false}
 use lib.ListN.{get_or, take}
 use lib.Seq.{take_all}
 use lib.Ieee.{nan}

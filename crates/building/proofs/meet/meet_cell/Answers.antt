@@ -1,5 +1,4 @@
 -- The invariant: the entities are those met by the candidates so far.
-use Prim.Native.Nat.{◌-◌}
 use native.Mathlib.Omega.{arith}
 use Rattle.building.proofs.Meeting.{meeting-none, meeting-more, meeting-all}
 use Rattle.building.proofs.meet.meet_cell.Goals as goal

@@ -8,7 +8,6 @@ use Rattle.rules.specs.Book.{most}
 use Rattle.relations.specs.Words.{row_at}
 use Rattle.building.specs.Sets.{padded}
 use Rattle.building.specs.Cells.{Candidates}
-use Prim.Native.Nat.{◌-◌}
 use native.Mathlib.Omega.{arith}
 use Rattle.building.proofs.Meeting.{found_none, found-more, found_all, most-few, start-within, row-cell, cell-candidates}
 use Rattle.building.proofs.meet.meet_cells.Goals as goal

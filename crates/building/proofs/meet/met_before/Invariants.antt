@@ -1,5 +1,4 @@
 -- The invariant: the candidate is among the entities before the walk's place exactly where it is among all.
-use Prim.Native.Nat.{◌-◌}
 use lib.ListN.{get_or}
 use Rattle.repeats.proofs.Walked.{Walking}
 use Rattle.building.specs.Sets.{entity, lowest}

@@ -1,7 +1,6 @@
 -- The invariant: the vertices of the entities so far are written.
 use Prim.Native.Nat.{◌+◌}
 use mathlib.Core.Path.{◌≡◌}
-use Prim.Native.Nat.{◌-◌}
 use native.Mathlib.Omega.{arith}
 use Rattle.relations.proofs.Listing.{listing_none, listing-more, listing-all}
 use Rattle.building.proofs.write.write_indices.Goals as goal

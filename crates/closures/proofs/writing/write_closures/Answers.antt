@@ -1,6 +1,5 @@
 -- `closures::writing::write_closures` meets its contract. The loop's invariant: below i the list is filled.
 use mathlib.Core.Path.{refl, ◌∙◌}
-use Prim.Native.Nat.{◌-◌}
 use native.Mathlib.Omega.{arith}
 use lib.ListN.{length}
 use lib.IntN.{pos}

@@ -1,6 +1,5 @@
 -- `closures::writing::write_steps` meets its contract. The loop's invariant: below i both lists are filled.
 use mathlib.Core.Path.{refl, ap, ◌∙◌}
-use Prim.Native.Nat.{◌-◌}
 use native.Mathlib.Omega.{arith}
 use lib.ListN.{length}
 use lib.Ieee.{nan}

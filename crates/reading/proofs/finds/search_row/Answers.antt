@@ -2,7 +2,7 @@
 use mathlib.Core.Path.{◌≡◌, refl, sym, ap, ◌∙◌}
 use Prim.Native.Nat.{ℕ}
 use native.Mathlib.Omega.{arith}
-use Rattle.rules.specs.Book.{count, key, row_of}
+use Rattle.rules.specs.Book.{key, row_of}
 use Rattle.rules.specs.Calls.{found_in, read_in, find_number}
 use Rattle.rules.proofs.AnyWords.{dim-most}
 use Rattle.rules.proofs.Accepted.{rowed, find-accepted, find-refused}

@@ -4,7 +4,7 @@ use Prim.Native.Nat.{ℕ, ◌+◌, ◌^◌, ◌<◌}
 use native.Mathlib.Omega.{arith}
 use lib.ListN.{get_or}
 use borrow.Author.Tests.{le-leb, lt-leb}
-use Rattle.rules.specs.Book.{offset, total}
+use Rattle.rules.specs.Book.{offset}
 use Rattle.rules.proofs.AnyWords.{place-low}
 use Rattle.reading.proofs.parts.offsets_right.Goals as goal
 

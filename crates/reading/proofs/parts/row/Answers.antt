@@ -4,7 +4,7 @@ use Prim.Native.Nat.{ℕ, ◌+◌, ◌*◌, min}
 use native.Mathlib.Omega.{arith}
 use lib.ListN.{length}
 use borrow.Author.Tests.{eq-eqb, ne_eqb}
-use Rattle.rules.specs.Book.{key, row_of, row_start}
+use Rattle.rules.specs.Book.{row_of, row_start}
 use Rattle.rules.specs.Calls.{row_number, row_part}
 use Rattle.rules.proofs.AnyWords.{dim-most}
 use Rattle.rules.proofs.Accepted.{rowed}

@@ -1,6 +1,5 @@
 -- The invariant: the offsets so far are written.
 use native.Mathlib.Nat.{mul-le-mul_left}
-use Prim.Native.Nat.{◌-◌}
 use native.Mathlib.Omega.{arith}
 use Rattle.relations.proofs.Stepping.{stepping-none, stepping-more, stepping-all}
 use Rattle.relations.proofs.words.write_offsets.Goals as goal
