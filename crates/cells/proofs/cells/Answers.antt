@@ -94,3 +94,6 @@ returns c =
     let k = key (dim ws) 0 in
     let z : place ws k + count ws (dim ws) + 1 + total ws k - (place ws k + count ws (dim ws) + 1) ≡ total ws k = omega arith in
     rw (place_is, count-is, total-is, z) (sym (cells_are ws s.requires.0 s.requires.1))
+
+pub slice_bounds-result-end : goal.slice_bounds-result-end
+slice_bounds-result-end c = omega (arith, inside c, c.well_formed)
