@@ -154,7 +154,7 @@ returns-then-bits_after c =
     let again-is : c.first_again-again.result.0 ≡ first_repeated (map sorted (cells_in_file (c.args.file.now))) =
     let p = c in c.first_again-again.ensures ∙ again-put (c.args.file.now) _ p.put_cells.new.words _ (head-is) p.put_cells.ensures in
     let none-again : file_cells (c.args.file.now) ≤ first_repeated (map sorted (cells_in_file (c.args.file.now))) =
-    omega (arith, cells_is, again-is, c.if-again-cell_count.false) in
+    omega (arith, cells_is, again-is) in
     let q = c in
     let s = q in
     let p = sound in record { fault = rw (bits-after (c.args.file.now) p (none_out) (none-twice) (none-again) (sym c.bits_after.ensures ∙ c.if-bits_after.true)); words = laid; }
@@ -181,7 +181,7 @@ returns c =
     let again-is : c.first_again-again.result.0 ≡ first_repeated (map sorted (cells_in_file (c.args.file.now))) =
     let p = c in c.first_again-again.ensures ∙ again-put (c.args.file.now) _ p.put_cells.new.words _ (head-is) p.put_cells.ensures in
     let none-again : file_cells (c.args.file.now) ≤ first_repeated (map sorted (cells_in_file (c.args.file.now))) =
-    omega (arith, cells_is, again-is, c.if-again-cell_count.false) in
+    omega (arith, cells_is, again-is) in
     let q = c in
     let s = q in
     let p = sound in record { fault = rw (no-fault (c.args.file.now) p (none_out) (none-twice) (none-again) (sym c.bits_after.ensures ∙ c.if-bits_after.false)); words = laid; }
