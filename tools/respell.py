@@ -8,6 +8,7 @@ is about, as in Rattle's own `length-drop`; a field of specs/ has none. Types, m
 """
 
 import glob
+import os
 import re
 import sys
 
@@ -26,7 +27,8 @@ DASHED = {
     "frame_right": ("promises/proofs/Kept", "rules/proofs/TrueRight"),
     "rows_right": ("promises/proofs/Kept", "rules/proofs/TrueRight"),
 }
-HEAD = re.compile(r"^(?:(?:unfoldable|abbrev|pub|record|data) )*([^\s(){}.;:,?]+)\s*:(?!:)")
+HEAD = re.compile(r"^(?:(?:unfoldable|abbrev|pub|record|data) )*([^\s(){}.;:,?]+)\s*(?:\{ℓ\} )?:(?!:)")
+INNER = re.compile(r"^\s+(?:(?:unfoldable|abbrev) )?pub ([^\s(){}.;:,?]+)\s*(?:\{ℓ\} )?:(?!:)")
 FIELD = re.compile(r"^\s+(?:pub )?([^\s(){}.;:,?]+)\s*:(?!:)")
 
 
@@ -48,17 +50,19 @@ def respelled(name, field):
 def declared():
     names = {}
     for path in sorted(glob.glob("crates/*/specs/**/*.antt", recursive=True) + glob.glob("crates/*/proofs/**/*.antt", recursive=True)):
+        if os.path.basename(path) in ("Answers.antt", "Invariants.antt"):
+            continue
         specs = "/specs/" in path
-        in_record = False
+        in_record = in_data = False
         for line in open(path):
             found = HEAD.match(line)
             if line[:1] not in (" ", "\n", "-"):
                 in_record = bool(re.match(r"(?:pub )?record ", line))
+                in_data = bool(re.match(r"(?:pub )?data ", line))
             field = FIELD.match(line) if in_record else None
-            found = field or found
+            found = field or found or (FIELD.match(line) if in_data else None)
             if not found:
-                found = re.match(r"^\s+(?:pub )([^\s(){}.;:,?]+)\s*:(?!:)", line)
-                field = None
+                found = INNER.match(line)
             if found:
                 name = found.group(1)
                 new = respelled(name, field and specs)
@@ -87,10 +91,12 @@ def main():
             print("%s → %s%s" % (old, names[old], "   (stands already)" if names[old] in words else ""))
         return
     changed = 0
+    if not names:
+        sys.exit("nothing to respell")
     for path, text in texts.items():
         new = text
         for name, files in DASHED.items():
-            if path in ["crates/%s.antt" % f for f in files]:
+            if name in names.values() and path in ["crates/%s.antt" % f for f in files]:
                 new = token([name]).sub(name.replace("_", "-"), new)
         new = token(names).sub(lambda m: names[m.group(0)], new)
         if new != text:

@@ -14,7 +14,7 @@ use borrow.Author.Tests.{eq-eqb, ne_eqb, lt-ltb, le-ltb, le-leb, lt-leb, eqb-fal
 use Rattle.rules.specs.Lists.{all_of}
 use Rattle.rules.specs.Book.{dim, count, key, held, frame_right, rows_right}
 use Rattle.rules.specs.Broken.{broken_at, told}
-use Rattle.rules.specs.Calls.{firstBroken}
+use Rattle.rules.specs.Calls.{first_broken}
 use Rattle.rules.specs.Boxes.{coordinate_rules, box_rules, box_number, whole_rules, whole_number}
 use Rattle.rules.proofs.Compared.{lt-or-le}
 use Rattle.rules.proofs.Told.{told-eleven, untold-as}
@@ -40,15 +40,15 @@ module _ (ws : List ℕ) (box : List Float) where
 -- ==== the coordinates
 module _ (ws : List ℕ) (coordinates : List Float) (axes : ℕ) where
   -- the number of lent coordinates
-  abbrev pub coordinateNumber : ℕ
-  coordinateNumber = firstBroken (coordinate_rules ws coordinates axes) 0
+  abbrev pub coordinate_number : ℕ
+  coordinate_number = first_broken (coordinate_rules ws coordinates axes) 0
 
-  pub axes-low : axes < 2 → 26 ≡ coordinateNumber
-  unfolding coordinate_rules firstBroken
+  pub axes-low : axes < 2 → 26 ≡ coordinate_number
+  unfolding coordinate_rules first_broken
   axes-low l = rw (ne_eqb axes 2 (omega arith), ne_eqb axes 3 (omega arith))
 
-  pub axes-high : 3 < axes → 26 ≡ coordinateNumber
-  unfolding coordinate_rules firstBroken
+  pub axes-high : 3 < axes → 26 ≡ coordinate_number
+  unfolding coordinate_rules first_broken
   axes-high l = rw (ne_eqb axes 2 (omega arith), ne_eqb axes 3 (omega arith))
 
   module _ (low : 2 ≤ axes) (high : axes ≤ 3) where
@@ -59,66 +59,66 @@ module _ (ws : List ℕ) (coordinates : List Float) (axes : ℕ) where
           | inr l ↦ rw (ne_eqb axes 2 (omega arith), eq-eqb axes 3 (omega arith))
         ]
 
-    pub length-off : eqb (length coordinates) (axes * count ws 0) ≡ false → 21 ≡ coordinateNumber
-    unfolding coordinate_rules firstBroken
+    pub length-off : eqb (length coordinates) (axes * count ws 0) ≡ false → 21 ≡ coordinate_number
+    unfolding coordinate_rules first_broken
     length-off l = rw (two-or-three, l)
 
     module _ (l : eqb (length coordinates) (axes * count ws 0) ≡ true) where
-      pub not_finite : all_of finite coordinates ≡ false → 27 ≡ coordinateNumber
-      unfolding coordinate_rules firstBroken
+      pub not_finite : all_of finite coordinates ≡ false → 27 ≡ coordinate_number
+      unfolding coordinate_rules first_broken
       not_finite b = rw (two-or-three, l, b)
 
-      pub lendable : all_of finite coordinates ≡ true → 0 ≡ coordinateNumber
-      unfolding coordinate_rules firstBroken
+      pub lendable : all_of finite coordinates ≡ true → 0 ≡ coordinate_number
+      unfolding coordinate_rules first_broken
       lendable b = rw (two-or-three, l, b)
 
   -- coordinates that may be lent have no more than three axes
-  pub few-axes : 0 ≡ coordinateNumber → axes ≤ 3
+  pub few-axes : 0 ≡ coordinate_number → axes ≤ 3
   few-axes z = elim (lt-or-le 3 axes) [ inl l ↦ absurd (eqb-false 0 26 refl (z ∙ sym (axes-high l))) | inr l ↦ l ]
 
 -- ==== the box of an entity
 module _ (ws : List ℕ) (coordinates : List Float) (axes d i : ℕ) where
   pub box-10 : frame_right ws ≡ false → 10 ≡ box_number ws coordinates axes d i
-  unfolding box_number box_rules firstBroken
+  unfolding box_number box_rules first_broken
   box-10 f = rw f
 
   module _ (f : frame_right ws ≡ true) where
     pub box-11 : rows_right ws ≡ false → 11 ≡ box_number ws coordinates axes d i
-    unfolding box_number box_rules firstBroken
+    unfolding box_number box_rules first_broken
     box-11 r = rw (f, r)
 
     module _ (r : rows_right ws ≡ true) where
       pub box-12 : dim ws < d → 12 ≡ box_number ws coordinates axes d i
-      unfolding box_number box_rules firstBroken
+      unfolding box_number box_rules first_broken
       box-12 l = rw (f, r, lt-ltb (dim ws) d l)
 
       module _ (l : d ≤ dim ws) where
         pub box-15 : (ltb 0 d && not (held ws (key d 0))) ≡ true → 15 ≡ box_number ws coordinates axes d i
-        unfolding box_number box_rules firstBroken
+        unfolding box_number box_rules first_broken
         box-15 h = rw (f, r, le-ltb (dim ws) d l, h)
 
         module _ (h : (ltb 0 d && not (held ws (key d 0))) ≡ false) where
           pub box-17 : count ws d ≤ i → 17 ≡ box_number ws coordinates axes d i
-          unfolding box_number box_rules firstBroken
+          unfolding box_number box_rules first_broken
           box-17 t = rw (f, r, le-ltb (dim ws) d l, h, le-leb (count ws d) i t)
 
           -- then the coordinates decide
-          pub box-rest : i < count ws d → coordinateNumber ws coordinates axes ≡ box_number ws coordinates axes d i
-          unfolding box_number box_rules firstBroken
+          pub box-rest : i < count ws d → coordinate_number ws coordinates axes ≡ box_number ws coordinates axes d i
+          unfolding box_number box_rules first_broken
           box-rest t = rw (f, r, le-ltb (dim ws) d l, h, lt-leb (count ws d) i t)
 
 -- ==== the box of the whole mesh
 module _ (ws : List ℕ) (coordinates : List Float) (axes : ℕ) where
   pub whole-10 : frame_right ws ≡ false → 10 ≡ whole_number ws coordinates axes
-  unfolding whole_number whole_rules firstBroken
+  unfolding whole_number whole_rules first_broken
   whole-10 f = rw f
 
   module _ (f : frame_right ws ≡ true) where
     pub whole-11 : rows_right ws ≡ false → 11 ≡ whole_number ws coordinates axes
-    unfolding whole_number whole_rules firstBroken
+    unfolding whole_number whole_rules first_broken
     whole-11 r = rw (f, r)
 
     -- then the coordinates decide
-    pub whole-rest : rows_right ws ≡ true → coordinateNumber ws coordinates axes ≡ whole_number ws coordinates axes
-    unfolding whole_number whole_rules firstBroken
+    pub whole-rest : rows_right ws ≡ true → coordinate_number ws coordinates axes ≡ whole_number ws coordinates axes
+    unfolding whole_number whole_rules first_broken
     whole-rest r = rw (f, r)

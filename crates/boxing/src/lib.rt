@@ -7,7 +7,7 @@ ghost use Rattle.std.specs.Prelude.{◌≡◌, not, ◌&&◌, ◌≤◌, ltb};
 ghost use Rattle.std.proofs.Math.Option.{none};
 ghost use Rattle.rules.specs.Book.{key, held};
 ghost use Rattle.rules.specs.Broken.{broken_at, told};
-ghost use Rattle.rules.specs.Calls.{firstBroken};
+ghost use Rattle.rules.specs.Calls.{first_broken};
 ghost use Rattle.rules.specs.Boxes.{coordinate_rules, entity_box, whole_box, box_number, box_given, whole_number, whole_given};
 ghost use Rattle.boxes.specs.Growing.{ends_of};
 ghost use Rattle.boxing.specs.Answers.{lent_number, boxed_number, boxed_place, boxed_ends, whole_boxed_number, whole_boxed_place, whole_boxed_ends};
@@ -20,7 +20,7 @@ use rows::Rows;
 
 // Whether these coordinates may be lent. Refusals: 26, 21, 27.
 fn lent(book: &[u32], coordinates: &[f64], axes: u32) -> Lent
-    ensures { lent_number result ≡ firstBroken (coordinate_rules book.now coordinates.now axes) 0 }
+    ensures { lent_number result ≡ first_broken (coordinate_rules book.now coordinates.now axes) 0 }
 {
     if axes < 2 {
         return Lent::AxisCount;

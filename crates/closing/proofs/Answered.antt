@@ -12,7 +12,7 @@ use borrow.Author.Tests.{ne_eqb, eq-eqb}
 use Rattle.rules.specs.Lists.{all_of}
 use Rattle.rules.specs.Book.{dim, key, held, frame_right, rows_right}
 use Rattle.rules.specs.Broken.{broken_at, told}
-use Rattle.rules.specs.Calls.{firstBroken}
+use Rattle.rules.specs.Calls.{first_broken}
 use Rattle.rules.specs.Phases.{counted}
 use Rattle.rules.specs.Closures.{lengths_right, close_rules, close_number, accepted_for, closures_of, steps_of, bytes_of, closures_after, steps_after, bytes_after}
 use Rattle.rules.proofs.Accepted.{closes}
@@ -25,12 +25,12 @@ bare ws n x e = (e, untold-as n _ _ x e)
 
 module _ (ws : List ℕ) (counts : List ℤ) (a b d : ℕ) where
   pub ten : frame_right ws ≡ false → 10 ≡ close_number ws counts a b d
-  unfolding close_number close_rules firstBroken
+  unfolding close_number close_rules first_broken
   ten f = rw f
 
   module _ (f : frame_right ws ≡ true) where
     number-eleven : rows_right ws ≡ false → 11 ≡ close_number ws counts a b d
-    unfolding close_number close_rules firstBroken
+    unfolding close_number close_rules first_broken
     number-eleven r = rw (f, r)
 
     -- with the place that was found
@@ -39,31 +39,31 @@ module _ (ws : List ℕ) (counts : List ℤ) (a b d : ℕ) where
 
     module _ (r : rows_right ws ≡ true) where
       pub twelve : dim ws ≡ 1 → 12 ≡ close_number ws counts a b d
-      unfolding close_number close_rules firstBroken
+      unfolding close_number close_rules first_broken
       twelve e = rw (f, r, eq-eqb (dim ws) 1 e)
 
       module _ (n : dim ws ≡ 1 → ⊥) where
         pub fifteen : held ws 4 ≡ false → 15 ≡ close_number ws counts a b d
-        unfolding close_number close_rules firstBroken key
+        unfolding close_number close_rules first_broken key
         fifteen h = rw (f, r, ne_eqb (dim ws) 1 n, h)
 
         module _ (h : held ws 4 ≡ true) where
           pub fifteen-too : held ws 8 ≡ false → 15 ≡ close_number ws counts a b d
-          unfolding close_number close_rules firstBroken key
+          unfolding close_number close_rules first_broken key
           fifteen-too g = rw (f, r, ne_eqb (dim ws) 1 n, h, g)
 
           module _ (g : held ws 8 ≡ true) where
             pub twenty-one : lengths_right ws counts a b d ≡ false → 21 ≡ close_number ws counts a b d
-            unfolding close_number close_rules firstBroken key
+            unfolding close_number close_rules first_broken key
             twenty-one l = rw (f, r, ne_eqb (dim ws) 1 n, h, g, l)
 
             module _ (l : lengths_right ws counts a b d ≡ true) where
               pub twenty-two : all_of counted counts ≡ false → 22 ≡ close_number ws counts a b d
-              unfolding close_number close_rules firstBroken key
+              unfolding close_number close_rules first_broken key
               twenty-two c = rw (f, r, ne_eqb (dim ws) 1 n, h, g, l, c)
 
               pub accepted : all_of counted counts ≡ true → 0 ≡ close_number ws counts a b d
-              unfolding close_number close_rules firstBroken key
+              unfolding close_number close_rules first_broken key
               accepted c = rw (f, r, ne_eqb (dim ws) 1 n, h, g, l, c)
 
   -- an accepted call has passed all tests

@@ -9,7 +9,7 @@ use lib.ListN.{length, replicate}
 use lib.Dec.{eqb, ltb}
 use borrow.Author.Tests.{eq-eqb, ne_eqb, lt-ltb, le-ltb}
 use Rattle.rules.specs.Book.{frame_right, rows_right}
-use Rattle.rules.specs.Calls.{firstBroken, answers_of, words_of, pairs_off, list_rules, list_number, list_answers, list_words}
+use Rattle.rules.specs.Calls.{first_broken, answers_of, words_of, pairs_off, list_rules, list_number, list_answers, list_words}
 use Rattle.rules.proofs.Tests.{or_right}
 use Rattle.rules.proofs.Accepted.{pairs-two}
 use Rattle.daybook.specs.Lists.{whole_number}
@@ -28,7 +28,7 @@ module _ (ws : List ℕ) (p n : ℕ) where
   uneven = not (eqb n (p / 2))
 
   refuses : (odd || over || uneven) ≡ true → 20 ≡ whole_number ws p n
-  unfolding whole_number firstBroken pairs_off odd over uneven
+  unfolding whole_number first_broken pairs_off odd over uneven
   refuses h = rw h
 
   pub whole-odd : p % 2 ≡ 1 → 20 ≡ whole_number ws p n
@@ -49,15 +49,15 @@ module _ (ws : List ℕ) (p n : ℕ) where
     fits = rw (ne_eqb (p % 2) 1 a, le-ltb 16 (p / 2) b, eq-eqb n (p / 2) c)
 
     pub whole-frame : frame_right ws ≡ false → 10 ≡ whole_number ws p n
-    unfolding whole_number firstBroken
+    unfolding whole_number first_broken
     whole-frame f = rw (fits, f)
 
     pub whole-rows : frame_right ws ≡ true → rows_right ws ≡ false → 11 ≡ whole_number ws p n
-    unfolding whole_number firstBroken
+    unfolding whole_number first_broken
     whole-rows f r = rw (fits, f, r)
 
     pub whole-right : frame_right ws ≡ true → rows_right ws ≡ true → 0 ≡ whole_number ws p n
-    unfolding whole_number firstBroken
+    unfolding whole_number first_broken
     whole-right f r = rw (fits, f, r)
 
 -- ---- what the list gives then
@@ -83,18 +83,18 @@ module _ (ws ps ns : List ℕ) where
   refused : pairs_off (length ps) (length ns) ≡ true → Lists ws ps ns 20 ns ws
   unfolding list_answers list_words
   refused h =
-      let q : list_number ps ns ≡ 20 = unfold list_number list_rules firstBroken in rw h in
+      let q : list_number ps ns ≡ 20 = unfold list_number list_rules first_broken in rw h in
       record { number_is = sym q; answers-are = rw q; words_are = rw q }
 
   accepted : pairs_off (length ps) (length ns) ≡ false → (ms vs : List ℕ) → ms ≡ answers_of ws ps → vs ≡ words_of ws ps → Lists ws ps ns 0 ms vs
   unfolding list_answers list_words
   accepted h ms vs p w =
-      let q : list_number ps ns ≡ 0 = unfold list_number list_rules firstBroken in rw h in
+      let q : list_number ps ns ≡ 0 = unfold list_number list_rules first_broken in rw h in
       record { number_is = sym q; answers-are = rw q p; words_are = rw q w }
 
   module _ (n : ℕ) (q : n ≡ whole_number ws (length ps) (length ns)) where
     way : Way ws ps ns n
-    unfolding whole_number firstBroken
+    unfolding whole_number first_broken
     way =
         go (pairs_off (length ps) (length ns)) (frame_right ws) (rows_right ws) refl refl refl
       where

@@ -7,7 +7,7 @@ use native.Mathlib.Omega.{arith}
 use lib.Dec.{eqb}
 use lib.Ieee.{Float}
 use mir.Val.{bool_byte}
-use Rattle.rules.specs.Calls.{fault_cell, load_number, load_cell, row_rules, row_number, firstBroken}
+use Rattle.rules.specs.Calls.{fault_cell, load_number, load_cell, row_rules, row_number, first_broken}
 use Rattle.rules.specs.Book.{dim, key, frame_right}
 use Rattle.rules.specs.Boxes.{some_box, box_after}
 use Rattle.rules.proofs.FrameRule.{framed}
@@ -21,7 +21,7 @@ cell-given f ws n e h = rw (e, h)
 
 -- an accepted row has a right frame
 frame-of : (ws : List ℕ) (d e i : ℕ) → row_number ws d e i ≡ 0 → frame_right ws ≡ true
-unfolding row_number row_rules firstBroken
+unfolding row_number row_rules first_broken
 frame-of ws d e i z = go (frame_right ws) refl _ z
   where
     go : (b : Bool) → frame_right ws ≡ b → (rest : ℕ) → ◌≡◌ {A = ℕ} (cond (not b) 10 rest) 0 → frame_right ws ≡ true

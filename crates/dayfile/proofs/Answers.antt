@@ -8,7 +8,7 @@ use native.Mathlib.Omega.{arith}
 use lib.Dec.{eqb, leb}
 use borrow.Author.Tests.{leb-true, eqb-true}
 use Rattle.rules.specs.Lists.{all_of}
-use Rattle.rules.specs.Calls.{Rule, firstBroken, file_rules, file_number, fault_cell}
+use Rattle.rules.specs.Calls.{Rule, first_broken, file_rules, file_number, fault_cell}
 use Rattle.rules.proofs.Tests.{cases, left, right, or_cases}
 use Rattle.dayfile.specs.declared.kinds.Fault.{Fault}
 use Rattle.dayfile.specs.declared.kinds.Fault.TheVariants.{None, Short, NoDimension, ManyVertices, ManyCells, SpareBits, WrongLength, VertexOut, VertexTwice, CellTwice, BitsAfter}
@@ -67,12 +67,12 @@ pub answers-same : (a b : Fault) → fault_number a ≡ fault_number b → cell_
 answers-same a b n c = sym (known a) ∙ rw (n, c) (known b)
 
 -- the first broken rule's answer is one of the rules' answers
-first-known : (rs : List (Rule ℕ)) → all_of (λ r. known-number r.answer) rs ≡ true → known-number (firstBroken rs 0) ≡ true
-unfolding all_of firstBroken
+first-known : (rs : List (Rule ℕ)) → all_of (λ r. known-number r.answer) rs ≡ true → known-number (first_broken rs 0) ≡ true
+unfolding all_of first_broken
 first-known [] h = refl
 first-known (r ∷ rs) h = go r.broken (left (known-number r.answer) _ h) (first-known rs (right (known-number r.answer) _ h))
   where
-    go : (b : Bool) → known-number r.answer ≡ true → known-number (firstBroken rs 0) ≡ true → known-number (cond b r.answer (firstBroken rs 0)) ≡ true
+    go : (b : Bool) → known-number r.answer ≡ true → known-number (first_broken rs 0) ≡ true → known-number (cond b r.answer (first_broken rs 0)) ≡ true
     go true p q = p
     go false p q = q
 

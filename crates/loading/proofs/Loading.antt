@@ -9,7 +9,7 @@ use lib.Dec.{eqb, ltb}
 use borrow.Author.Tests.{ltb-true, ne_eqb, eq-eqb, lt-ltb, le-ltb}
 use Rattle.rules.specs.Lists.{all_of, filled}
 use Rattle.rules.specs.File.{field, head_cells, head_dim}
-use Rattle.rules.specs.Calls.{Rule, firstBroken, loaded, file_rules, file_number, fault_cell, load_rules, load_number, load_cell, load_words}
+use Rattle.rules.specs.Calls.{Rule, first_broken, loaded, file_rules, file_number, fault_cell, load_rules, load_number, load_cell, load_words}
 use Rattle.rules.proofs.Tests.{left, right}
 use Rattle.rules.proofs.Head.{head-cells, head-dim}
 use Rattle.rules.proofs.LoadedWords.{loaded-length}
@@ -19,22 +19,22 @@ use Rattle.dayfile.proofs.Answers.{number-back, cell-back}
 
 -- the first broken of two lists of rules, none of whose answers is 0
 first-of-two : (rs ss : List (Rule ℕ)) → all_of (λ r. ltb 0 r.answer) rs ≡ true
-    → firstBroken (rs ++ ss) 0 ≡ cond (eqb (firstBroken rs 0) 0) (firstBroken ss 0) (firstBroken rs 0)
-unfolding all_of firstBroken
+    → first_broken (rs ++ ss) 0 ≡ cond (eqb (first_broken rs 0) 0) (first_broken ss 0) (first_broken rs 0)
+unfolding all_of first_broken
 first-of-two [] ss h = refl
 first-of-two (r ∷ rs) ss h = go r.broken (first-of-two rs ss (right (ltb 0 r.answer) _ h))
   where
     l : 0 < r.answer
     l = search (left, ltb-true)
 
-    go : (b : Bool) → firstBroken (rs ++ ss) 0 ≡ cond (eqb (firstBroken rs 0) 0) (firstBroken ss 0) (firstBroken rs 0)
-        → cond b r.answer (firstBroken (rs ++ ss) 0) ≡ cond (eqb (cond b r.answer (firstBroken rs 0)) 0) (firstBroken ss 0) (cond b r.answer (firstBroken rs 0))
+    go : (b : Bool) → first_broken (rs ++ ss) 0 ≡ cond (eqb (first_broken rs 0) 0) (first_broken ss 0) (first_broken rs 0)
+        → cond b r.answer (first_broken (rs ++ ss) 0) ≡ cond (eqb (cond b r.answer (first_broken rs 0)) 0) (first_broken ss 0) (cond b r.answer (first_broken rs 0))
     go true i = rw (ne_eqb r.answer 0 (λ e. omega (arith, l)))
     go false i = i
 
 load-splits : (f ws : List ℕ) → load_number f ws ≡ cond (eqb (file_number f) 0) (cond (ltb (length ws) (length (loaded f))) 13 0) (file_number f)
 unfolding load_number load_rules file_number
-load-splits f ws = first-of-two (file_rules f) _ (unfold all_of file_rules in refl) ∙ unfold firstBroken in refl
+load-splits f ws = first-of-two (file_rules f) _ (unfold all_of file_rules in refl) ∙ unfold first_broken in refl
 
 -- the cell and the words, from the number
 cell-of : (f ws : List ℕ) (n : ℕ) → load_number f ws ≡ n → load_cell f ws ≡ cond (eqb n 7 || eqb n 8 || eqb n 23) (fault_cell f) 0

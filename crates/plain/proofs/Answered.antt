@@ -8,7 +8,7 @@ use lib.Dec.{eqb, leb}
 use borrow.Author.Tests.{lt-ltb, le-ltb}
 use Rattle.rules.specs.Book.{dim, frame_right, rows_right}
 use Rattle.rules.specs.Broken.{broken_at, told}
-use Rattle.rules.specs.Calls.{firstBroken}
+use Rattle.rules.specs.Calls.{first_broken}
 use Rattle.rules.specs.Truth.{Mesh, number}
 use Rattle.rules.specs.Plain.{mesh_in, plain_rules, plain_number, plain_yes}
 use Rattle.rules.proofs.Told.{told-eleven}
@@ -16,7 +16,7 @@ use Rattle.plain.specs.declared.answers.WorkedOut.{WorkedOut}
 use Rattle.plain.specs.Answers.{worked_number, worked_yes, worked_place, by_counts, said_of}
 
 not-eleven : (m : Mesh) (d e i j : ℕ) → eqb (by_counts m d e i j) 11 ≡ false
-unfolding by_counts firstBroken
+unfolding by_counts first_broken
 not-eleven m d e i j = go (leb (number m d) i) (leb (number m e) j)
   where
     go : (x y : Bool) → eqb (cond x 17 (cond y 19 0)) 11 ≡ false
@@ -46,26 +46,26 @@ module _ (ws : List ℕ) (d e i j : ℕ) where
   placed-so r a y q p = (a ∙ sym p, (y ∙ no-yes 11 refl p, q ∙ told-eleven _ _ (sym p)))
 
   pub plain-10 : frame_right ws ≡ false → plain_number ws d e i j ≡ 10
-  unfolding plain_number plain_rules firstBroken
+  unfolding plain_number plain_rules first_broken
   plain-10 f = rw f
 
   module _ (f : frame_right ws ≡ true) where
     pub plain-11 : rows_right ws ≡ false → plain_number ws d e i j ≡ 11
-    unfolding plain_number plain_rules firstBroken
+    unfolding plain_number plain_rules first_broken
     plain-11 r = rw (f, r)
 
     module _ (r : rows_right ws ≡ true) where
       pub plain-12-first : dim ws < d → plain_number ws d e i j ≡ 12
-      unfolding plain_number plain_rules firstBroken
+      unfolding plain_number plain_rules first_broken
       plain-12-first l = rw (f, r, lt-ltb (dim ws) d l)
 
       pub plain-12-second : d ≤ dim ws → dim ws < e → plain_number ws d e i j ≡ 12
-      unfolding plain_number plain_rules firstBroken
+      unfolding plain_number plain_rules first_broken
       plain-12-second k l = rw (f, r, le-ltb (dim ws) d k, lt-ltb (dim ws) e l)
 
       module _ (k : d ≤ dim ws) (l : e ≤ dim ws) where
         counts-decide : plain_number ws d e i j ≡ by_counts (mesh_in ws) d e i j
-        unfolding plain_number plain_rules by_counts firstBroken
+        unfolding plain_number plain_rules by_counts first_broken
         counts-decide = rw (f, r, le-ltb (dim ws) d k, le-ltb (dim ws) e l)
 
         -- the mesh decides the rest, and 11 is not among it

@@ -8,7 +8,7 @@ use lib.Dec.{eqb, ltb, leb}
 use borrow.Author.Tests.{eq-eqb, ne_eqb, lt-ltb, le-ltb, ltb-true, ltb-false, le-leb, lt-leb}
 use Rattle.rules.specs.Lists.{any_of, has, meets}
 use Rattle.rules.specs.Made.{built}
-use Rattle.rules.specs.Calls.{firstBroken}
+use Rattle.rules.specs.Calls.{first_broken}
 use Rattle.rules.specs.Truth.{Mesh, entities, number, entity, incident}
 use Rattle.rules.proofs.Numbered.{length-rows, get_d_rows}
 use Rattle.rules.proofs.Incidence.{incident-level}
@@ -84,7 +84,7 @@ module _ (m : Mesh) (d e i j : ℕ) (s : d ≡ e) where
 -- ---- the number and the answer, from what was found
 module _ (m : Mesh) (d e i j : ℕ) where
   pub none_first : (r : Sought) → Finds (entities m d) d i r → r.there ≡ false → by_counts m d e i j ≡ 17
-  unfolding by_counts firstBroken number
+  unfolding by_counts first_broken number
   none_first r f t = rw (le-leb (length (entities m d)) i (ltb-false i (length (entities m d)) (sym f.there ∙ t)))
 
   module _ (r : Sought) (f : Finds (entities m d) d i r) (t : r.there ≡ true) where
@@ -93,11 +93,11 @@ module _ (m : Mesh) (d e i j : ℕ) where
     there-first = lt-leb (length (entities m d)) i (ltb-true i (length (entities m d)) (sym f.there ∙ t))
 
     pub none-second : (q : Sought) → Finds (entities m e) e j q → q.there ≡ false → by_counts m d e i j ≡ 19
-    unfolding by_counts firstBroken number
+    unfolding by_counts first_broken number
     none-second q g u = rw (there-first, le-leb (length (entities m e)) j (ltb-false j (length (entities m e)) (sym g.there ∙ u)))
 
     pub both-there : (q : Sought) → Finds (entities m e) e j q → q.there ≡ true → by_counts m d e i j ≡ 0
-    unfolding by_counts firstBroken number
+    unfolding by_counts first_broken number
     both-there q g u = rw (there-first, lt-leb (length (entities m e)) j (ltb-true j (length (entities m e)) (sym g.there ∙ u)))
 
   pub said-none : (n : ℕ) → eqb n 0 ≡ false → by_counts m d e i j ≡ n → said_of m d e i j ≡ false

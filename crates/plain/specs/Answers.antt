@@ -1,7 +1,7 @@
 -- What the plain engine's answer means: document 02's number, 0 where accepted, its yes or no, and the place that comes with 11; and the part of it that a mesh decides.
 use Rattle.std.specs.Prelude.{Bool, false, cond, [], ◌∷◌, ℕ, eqb, leb}
 use Rattle.std.proofs.Math.Option.{Option, none}
-use Rattle.rules.specs.Calls.{rule, firstBroken}
+use Rattle.rules.specs.Calls.{rule, first_broken}
 use Rattle.rules.specs.Truth.{Mesh, number, incident}
 use Rattle.rows.specs.Answers.{placed}
 use Rattle.plain.specs.declared.answers.WorkedOut.{WorkedOut}
@@ -36,7 +36,7 @@ worked_place answers.NoSuchIndex = none
 
 -- the refusals that a mesh decides: 17 if there is no entity (d, i), else 19 if there is no entity (e, j), else 0
 unfoldable pub by_counts : Mesh → ℕ → ℕ → ℕ → ℕ → ℕ
-by_counts m d e i j = firstBroken (rule (leb (number m d) i) 17 ∷ rule (leb (number m e) j) 19 ∷ []) 0
+by_counts m d e i j = first_broken (rule (leb (number m d) i) 17 ∷ rule (leb (number m e) j) 19 ∷ []) 0
 
 -- whether (e, j) is incident to (d, i), no on one of these refusals
 unfoldable pub said_of : Mesh → ℕ → ℕ → ℕ → ℕ → Bool

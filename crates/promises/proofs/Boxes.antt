@@ -11,7 +11,7 @@ use lib.Ieee.{Float}
 use borrow.Author.Tests.{ltb-true, lt-ltb, eq-eqb, ne_eqb}
 use Rattle.rules.specs.Lists.{up_to, any_of, has, members_below}
 use Rattle.rules.specs.Book.{dim, count, key, row_of, rows_of, rows_right}
-use Rattle.rules.specs.Calls.{firstBroken, used_vertices}
+use Rattle.rules.specs.Calls.{first_broken, used_vertices}
 use Rattle.rules.specs.Boxes.{vertices_of, entity_box, whole_box, coordinate_rules, whole_rules, whole_number}
 use Rattle.rules.proofs.Tests.{agree, or_right, get_or-in, any-of, any-is, has_of, has-is}
 use Rattle.rules.proofs.Keep.{keep-of, keep-is, up_to-of}
@@ -106,7 +106,7 @@ whole-there ws coordinates axes z =
 
 -- ---- where an entity's box is given, the whole mesh's is
 pub whole-given : (ws : List ℕ) (coordinates : List Float) (axes d i : ℕ) → Boxes ws coordinates axes d i → whole_number ws coordinates axes ≡ 0
-unfolding whole_number whole_rules coordinate_rules firstBroken
+unfolding whole_number whole_rules coordinate_rules first_broken
 whole-given ws coordinates axes d i a =
     let t : (eqb axes 2 || eqb axes 3) ≡ true = elim a.lent.across [ inl e ↦ rw (eq-eqb axes 2 e) | inr e ↦ or_right (eqb axes 2) (eqb axes 3) (eq-eqb axes 3 e) ] in
     rw (a.frame, a.rows, t, eq-eqb (length coordinates) (axes * count ws 0) a.lent.a-vertex, a.lent.numbers)

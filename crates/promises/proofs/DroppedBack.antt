@@ -8,7 +8,7 @@ use lib.ListN.{length, get_or, get_or-eq_default}
 use borrow.Author.Tests.{le-ltb, leb-true}
 use Rattle.rules.specs.Lists.{all_of, filled}
 use Rattle.rules.specs.Book.{key, named, held, needs}
-use Rattle.rules.specs.Calls.{firstBroken, added, make_number, make_words, ask_number, ask_words, dropped}
+use Rattle.rules.specs.Calls.{first_broken, added, make_number, make_words, ask_number, ask_words, dropped}
 use Rattle.rules.specs.Steps.{mask_through, mask_with}
 use Rattle.rules.specs.Truth.{Mesh, true_book}
 use Rattle.promises.specs.Plan.{words_for, make_plan, ask_plan}
@@ -123,7 +123,7 @@ module _ (m : Mesh) (ws : List ℕ) (k : Kept m ws) (d e : ℕ) (a : Drops ws d 
     make-number = make-planned m vs left-kept d e ∙ plan
       where
         plan : make_plan (length vs) m mask d e ≡ 0
-        plan = unfold make_plan firstBroken in rw (le-ltb m.dims d ld, le-ltb m.dims e le, off, needed, again, long, le-ltb (length ws) (words_for m k.mask) fits)
+        plan = unfold make_plan first_broken in rw (le-ltb m.dims d ld, le-ltb m.dims e le, off, needed, again, long, le-ltb (length ws) (words_for m k.mask) fits)
 
     make-words : make_words vs d e ≡ ws
     make-words =
@@ -137,7 +137,7 @@ module _ (m : Mesh) (ws : List ℕ) (k : Kept m ws) (d e : ℕ) (a : Drops ws d 
     ask-number = ask-planned m vs left-kept d e ∙ plan
       where
         plan : ask_plan (length vs) m mask d e ≡ 0
-        plan = unfold ask_plan firstBroken in rw (le-ltb m.dims d ld, le-ltb m.dims e le, with-key, long, le-ltb (length ws) (words_for m k.mask) fits)
+        plan = unfold ask_plan first_broken in rw (le-ltb m.dims d ld, le-ltb m.dims e le, with-key, long, le-ltb (length ws) (words_for m k.mask) fits)
 
     ask-words : ask_words vs d e ≡ ws
     ask-words =

@@ -6,7 +6,7 @@ use Prim.Native.Nat.{ℕ, ◌≤◌, ◌<◌}
 use lib.Dec.{eqb, ltb, leb}
 use Rattle.rules.specs.Lists.{has}
 use Rattle.rules.specs.Book.{dim, key, named, held}
-use Rattle.rules.specs.Calls.{firstBroken, find_number}
+use Rattle.rules.specs.Calls.{first_broken, find_number}
 use Rattle.rules.specs.Truth.{Mesh, number}
 use Rattle.rules.specs.Plain.{mesh_in, plain_rules, plain_number, plain_yes}
 use Rattle.rules.specs.Sequence.{Reached}
@@ -44,7 +44,7 @@ plain-agrees m ws r d e i j h z =
 
 -- the two plans, where the mask names d→e
 plans-alike : (m : Mesh) (mask d e i j : ℕ) → named mask (key d e) ≡ true → plain_plan m d e i j ≡ find_plan m mask d e i j
-unfolding plain_plan find_plan row_plan firstBroken
+unfolding plain_plan find_plan row_plan first_broken
 plans-alike m mask d e i j h = rw h (go (ltb m.dims d || ltb m.dims e) (leb (number m d) i))
   where
     go : (x y : Bool)
@@ -64,7 +64,7 @@ plain-finds m ws r d e i j =
         plain-planned m ws k d e i j ∙ plans-alike m k.mask d e i j (sym (kept-held m ws k (key d e)) ∙ h) ∙ sym (find-planned m ws k d e i j)
 
 pub cells-alone : CellsAlone
-unfolding plain_number plain_rules plain_yes firstBroken
+unfolding plain_number plain_rules plain_yes first_broken
 cells-alone ws vs f g q d e i j =
     let n : dim ws ≡ dim vs = unfold mesh_in in ap (λ (m : Mesh). m.dims) q in
     rw (f.frame, f.rows, g.frame, g.rows, q, n) (refl, refl)

@@ -12,7 +12,7 @@ use lib.Ieee.Scale.{finite}
 use borrow.Author.Tests.{ltb-false, leb-false, le-leb, eqb-true}
 use Rattle.rules.specs.Lists.{all_of, filled}
 use Rattle.rules.specs.Book.{count, key, named, held, offset, total, needs, frame_right, rows_right}
-use Rattle.rules.specs.Calls.{rule, firstBroken, added, asked, make_rules, make_number, ask_rules, ask_number, ask_words, row_rules, row_number, find_number, write_rules, write_number, euler_rules, euler_number, held_rules, held_number, drop_rules, drop_number}
+use Rattle.rules.specs.Calls.{rule, first_broken, added, asked, make_rules, make_number, ask_rules, ask_number, ask_words, row_rules, row_number, find_number, write_rules, write_number, euler_rules, euler_number, held_rules, held_number, drop_rules, drop_number}
 use Rattle.rules.specs.Phases.{counted}
 use Rattle.rules.specs.Closures.{lengths_right, close_rules, close_number}
 use Rattle.rules.specs.Boxes.{coordinate_rules, box_rules, box_number, whole_rules, whole_number}
@@ -63,7 +63,7 @@ module _ (m : Mesh) (ws : List ℕ) (k : Kept m ws) where
       ∙ ap length (true-added m k.formed k.mask k.proper d e a b o n (length ws))
 
   pub make-planned : (d e : ℕ) → make_number ws d e ≡ make_plan (length ws) m k.mask d e
-  unfolding make_number make_rules make_plan firstBroken
+  unfolding make_number make_rules make_plan first_broken
   make-planned d e =
       rw (frame, rows, kept-dim m ws k, kept-held m ws k (key d e), all_held (needs m.dims d e), kept-alike m ws k d, and-off (eqb e 0))
       (go (ltb m.dims d) refl (ltb m.dims e) refl (named k.mask (key d e)) refl (all_of (named k.mask) (needs m.dims d e)) refl)
@@ -98,7 +98,7 @@ module _ (m : Mesh) (ws : List ℕ) (k : Kept m ws) where
   asked-words d e a b = ap length (asked-book d e a b)
 
   pub ask-planned : (d e : ℕ) → ask_number ws d e ≡ ask_plan (length ws) m k.mask d e
-  unfolding ask_number ask_rules ask_plan firstBroken
+  unfolding ask_number ask_rules ask_plan first_broken
   ask-planned d e =
       rw (frame, rows, kept-dim m ws k, none-differs ws (kept-alike m ws k) d e) (go (ltb m.dims d) refl (ltb m.dims e) refl)
     where
@@ -120,12 +120,12 @@ module _ (m : Mesh) (ws : List ℕ) (k : Kept m ws) where
 
   -- Drop
   pub drop-planned : (d e : ℕ) → drop_number ws d e ≡ drop_plan m k.mask d e
-  unfolding drop_number drop_rules drop_plan firstBroken
+  unfolding drop_number drop_rules drop_plan first_broken
   drop-planned d e = rw (frame, rows, kept-dim m ws k, kept-held m ws k (key d e))
 
   -- Row
   pub row-planned : (d e i : ℕ) → row_number ws d e i ≡ row_plan m k.mask d e i
-  unfolding row_number row_rules row_plan firstBroken
+  unfolding row_number row_rules row_plan first_broken
   row-planned d e i =
       rw (frame, kept-dim m ws k, kept-held m ws k (key d e)) (go (ltb m.dims d) refl (ltb m.dims e) refl (named k.mask (key d e)) refl)
     where
@@ -163,7 +163,7 @@ module _ (m : Mesh) (ws : List ℕ) (k : Kept m ws) where
       second-count m ws k d e (rw (kept-dim m ws k) at a.second) a.there
 
   pub find-planned : (d e i j : ℕ) → find_number ws d e i j ≡ find_plan m k.mask d e i j
-  unfolding find_plan firstBroken
+  unfolding find_plan first_broken
   find-planned d e i j = find-is ws d e i j ∙ rw (← row-planned d e i) (agreed (eqb (row_number ws d e i) 0) refl)
     where
       agreed : (b : Bool) → eqb (row_number ws d e i) 0 ≡ b
@@ -173,23 +173,23 @@ module _ (m : Mesh) (ws : List ℕ) (k : Kept m ws) where
 
   -- Write, Euler, Held count
   pub write-planned : (bs : List ℕ) → write_number ws bs ≡ write_plan (length bs) m
-  unfolding write_number write_rules write_plan firstBroken
+  unfolding write_number write_rules write_plan first_broken
   write-planned bs =
       let c : count ws m.dims ≡ length m.cells
       = ap (λ (w : List ℕ). count w m.dims) k.words ∙ count-first m k.formed k.mask k.proper m.dims 0 (omega arith) k.proper.top (length ws) ∙ number-top m k.formed.low in
       rw (frame, rows, write-length ws, kept-dim m ws k, c)
 
   euler-planned : euler_number ws ≡ euler_plan m k.mask
-  unfolding euler_number euler_rules euler_plan firstBroken
+  unfolding euler_number euler_rules euler_plan first_broken
   euler-planned = rw (frame, rows, kept-dim m ws k, kept-held m ws k (key 1 0), kept-held m ws k (key 2 0))
 
   held-planned : held_number ws ≡ 0
-  unfolding held_number held_rules firstBroken
+  unfolding held_number held_rules first_broken
   held-planned = rw frame
 
   -- phase closures
   close-planned : (counts : List ℤ) (closures steps bytes : ℕ) → close_number ws counts closures steps bytes ≡ close_plan m k.mask counts closures steps bytes
-  unfolding close_number close_rules close_plan lengths_right firstBroken
+  unfolding close_number close_rules close_plan lengths_right first_broken
   close-planned counts closures steps bytes =
       rw (frame, rows, kept-dim m ws k, kept-held m ws k (key 1 0), kept-held m ws k (key 2 0)) (go (named k.mask (key 1 0)) refl (named k.mask (key 2 0)) refl)
     where
@@ -214,7 +214,7 @@ module _ (m : Mesh) (ws : List ℕ) (k : Kept m ws) where
   vertices = vertices-true m ws k ∙ sym (number-low m)
 
   box-planned : (coordinates : List Float) (axes d i : ℕ) → box_number ws coordinates axes d i ≡ box_plan m k.mask coordinates axes d i
-  unfolding box_number box_rules box_plan coordinate_rules coordinate_plan firstBroken
+  unfolding box_number box_rules box_plan coordinate_rules coordinate_plan first_broken
   box-planned coordinates axes d i = rw (frame, rows, kept-dim m ws k, kept-held m ws k (key d 0), vertices) (go (ltb 0 d) refl (named k.mask (key d 0)) refl)
     where
       lent : ℕ
@@ -228,12 +228,12 @@ module _ (m : Mesh) (ws : List ℕ) (k : Kept m ws) where
       go false p o q = let e : d ≡ 0 = omega (arith, ltb-false 0 d p) in rw (e, vertices)
 
   whole-planned : (coordinates : List Float) (axes : ℕ) → whole_number ws coordinates axes ≡ whole_plan m coordinates axes
-  unfolding whole_number whole_rules whole_plan coordinate_rules coordinate_plan firstBroken
+  unfolding whole_number whole_rules whole_plan coordinate_rules coordinate_plan first_broken
   whole-planned coordinates axes = rw (frame, rows, vertices)
 
   -- a plain engine
   pub plain-planned : (d e i j : ℕ) → plain_number ws d e i j ≡ plain_plan m d e i j
-  unfolding plain_number plain_rules plain_plan firstBroken
+  unfolding plain_number plain_rules plain_plan first_broken
   plain-planned d e i j = rw (frame, rows, kept-dim m ws k, mesh-true m ws k)
 
   pub same-mask : (mask : ℕ) → Holds ws mask → mask ≡ k.mask

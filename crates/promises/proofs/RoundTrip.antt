@@ -7,7 +7,7 @@ use lib.ListN.{length}
 use borrow.Author.Tests.{le-ltb}
 use Rattle.rules.specs.File.{length_of, file_dim, file_cells}
 use Rattle.rules.specs.Book.{key}
-use Rattle.rules.specs.Calls.{firstBroken, loaded, load_number, load_words, written}
+use Rattle.rules.specs.Calls.{first_broken, loaded, load_number, load_words, written}
 use Rattle.rules.specs.Truth.{Mesh, mesh_of, true_book}
 use Rattle.promises.specs.Plan.{write_plan}
 use Rattle.promises.specs.Demand.{FileBack, MeshBack, WordsBack, RoomToWrite}
@@ -57,7 +57,7 @@ words_back f ws vs h l =
 
 -- a buffer as long as the file has room
 room : (f us bs : List ℕ) → load_number f us ≡ 0 → length f ≤ length bs → write_plan (length bs) (mesh_of f) ≡ 0
-unfolding write_plan firstBroken
+unfolding write_plan first_broken
 room f us bs h l =
     let s : length f ≡ length_of (file_dim f) (file_cells f) = (loads f us h).size in
     rw (mesh-dims f, mesh-cells f, cells_are f, ← s, le-ltb (length bs) (length f) l)

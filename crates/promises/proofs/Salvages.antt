@@ -10,7 +10,7 @@ use lib.Dec.{eqb, ltb}
 use borrow.Author.Tests.{ltb-false, le-ltb, eqb-false}
 use Rattle.rules.specs.Lists.{has, any_of}
 use Rattle.rules.specs.File.{file_dim, file_vertices, file_cells, file_cell, out_of, twice}
-use Rattle.rules.specs.Calls.{firstBroken, at_front}
+use Rattle.rules.specs.Calls.{first_broken, at_front}
 use Rattle.rules.specs.Salvage.{Headed, cut_off, equal_to, cell_fault, kept_of, why, kept, dropped_pairs, saved, saved_length, salvage_rules, salvage_number, salvage_given, salvage_bytes, salvage_list}
 use Rattle.promises.specs.Salvages.{SavedCells, SavedLoads, SavedTwice, SavedTwiceGiven, LoadedSame, LoadedGiven, KeptNumbers, Reasons, AllAccounted, LengthsKept, RoomForAll, SavedWithin}
 use Rattle.rules.proofs.Accepted.{loads, accepts, salvages, salvage-accepts}
@@ -61,7 +61,7 @@ unfolding kept
 numbers-kept f = kept-numbers f (file_cells f)
 
 pub reasons : Reasons
-unfolding why cell_fault firstBroken has any_of
+unfolding why cell_fault first_broken has any_of
 reasons f c = go (cut_off f c) (out_of (file_vertices f) (file_cell f c)) (twice (file_cell f c)) (equal_to (file_cell f c) (kept_of f c))
   where
     go : (a b c d : Bool) → any_of (eqb (cond a 6 (cond b 7 (cond c 8 (cond d 23 0))))) (0 ∷ 6 ∷ 7 ∷ 8 ∷ 23 ∷ []) ≡ true
@@ -82,7 +82,7 @@ lengths-kept f bytes list = (
 )
 
 pub room-for-all : RoomForAll
-unfolding salvage_number salvage_rules firstBroken
+unfolding salvage_number salvage_rules first_broken
 room-for-all f bytes list b p = go (ltb (length f) 4) refl (eqb (file_dim f) 0) refl (ltb 8192 (file_vertices f)) refl (ltb 4096 (file_cells f)) refl
   where
     go : (s : Bool) → ltb (length f) 4 ≡ s → (d : Bool) → eqb (file_dim f) 0 ≡ d → (v : Bool) → ltb 8192 (file_vertices f) ≡ v → (c : Bool) → ltb 4096 (file_cells f) ≡ c

@@ -9,7 +9,7 @@ use borrow.Author.Tests.{eqb-true}
 use Rattle.rules.specs.Lists.{up_to, any_of, first_at, has}
 use Rattle.rules.specs.File.{length_of}
 use Rattle.rules.specs.Book.{count, key, held, Right}
-use Rattle.rules.specs.Calls.{firstBroken}
+use Rattle.rules.specs.Calls.{first_broken}
 use Rattle.rules.specs.Truth.{Mesh, number, true_row, used_in}
 use Rattle.rules.specs.Sequence.{Reached}
 use Rattle.rules.specs.Sheet.{Flat, unused, branched, unmatched, rim_edges_of, rim_vertices_of, rim_length_of, sheet_rules, sheet_answer}
@@ -70,7 +70,7 @@ module _ (m : Mesh) (ws : List ℕ) (acrosses bytes vertices edges : ℕ) where
 -- ---- the answer
 pub sheet-planned : (m : Mesh) (ws : List ℕ) (r : Reached m ws) (acrosses bytes vertices edges : ℕ)
     → sheet_answer ws acrosses bytes vertices edges ≡ sheet_plan m (reached-kept m ws r).mask acrosses bytes vertices edges
-unfolding sheet_answer sheet_rules firstBroken sheet_plan byBook byMesh none off
+unfolding sheet_answer sheet_rules first_broken sheet_plan byBook byMesh none off
 sheet-planned m ws r acrosses bytes vertices edges =
     rw (right.frame, right.rows, kept-dim m ws k, ← kept-held m ws k (key 1 0), ← kept-held m ws k (key 2 1), ← kept-held m ws k (key 1 2))
     (go (eqb m.dims 2) refl (held ws (key 1 0) && held ws (key 2 1) && held ws (key 1 2)) refl)

@@ -9,7 +9,7 @@ use Rattle.rules.specs.Boxes.{box_number, whole_number}
 use Rattle.rules.specs.Sheet.{sheet_answer, sheet_number}
 use Rattle.rules.specs.Plain.{plain_number}
 use Rattle.rules.specs.Truth.{Mesh, mesh_of, number, incident, true_rows, true_euler, true_book}
-use Rattle.rules.specs.Sequence.{State, askList, after, after_all, asks_of, Reached}
+use Rattle.rules.specs.Sequence.{State, ask_list, after, after_all, asks_of, Reached}
 use Rattle.promises.specs.Plan.{words_for, make_plan, ask_plan, answers_plan, row_plan, find_plan, write_plan, euler_plan, close_plan, box_plan, whole_plan, drop_plan, plain_plan}
 use Rattle.promises.specs.SheetPlan.{sheet_plan}
 
@@ -107,7 +107,7 @@ ListPlanned = (m : Mesh) (ws : List ℕ) → Reached m ws → (mask : ℕ) → H
 -- a list of asks is read as those asks: the state after it is the state after them, and a refused list leaves the state
 abbrev pub ReadAsAsks : Type 0
 ReadAsAsks = (s : State) (ps ns : List ℕ)
-    → after s (askList ps ns) ≡ cond (eqb (list_number ps ns) 0) (after_all s (asks_of ps)) s
+    → after s (ask_list ps ns) ≡ cond (eqb (list_number ps ns) 0) (after_all s (asks_of ps)) s
 
 -- and each pair's answer is the number of its ask, on the book that the asks before it leave
 abbrev pub AnsweredAsAsks : Type 0

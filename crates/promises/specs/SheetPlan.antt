@@ -3,7 +3,7 @@ use Rattle.std.specs.Prelude.{not, ◌&&◌, ◌||◌, List, [], ◌∷◌, ℕ,
 use Rattle.rules.specs.Lists.{up_to, any_of, keep, has}
 use Rattle.rules.specs.File.{length_of}
 use Rattle.rules.specs.Book.{key, named}
-use Rattle.rules.specs.Calls.{firstBroken}
+use Rattle.rules.specs.Calls.{first_broken}
 use Rattle.rules.specs.Truth.{Mesh, number, entity, true_row, used_in}
 use Rattle.rules.specs.Sheet.{carried, not_sheet}
 
@@ -18,7 +18,7 @@ rim_points m = keep (λ v. any_of (λ k. has v (entity m 1 k)) (rim_of m)) (up_t
 -- the answer for lent lists of these lengths: 28 with 1, 15, 28 with 2 or 3, 29, 18, 21, else 0
 unfoldable pub sheet_plan : Mesh → ℕ → ℕ → ℕ → ℕ → ℕ → List ℕ
 sheet_plan m mask acrosses bytes vertices edges =
-    firstBroken
+    first_broken
     (carried (not (eqb m.dims 2)) (28 ∷ 1 ∷ [])
     ∷ carried (not (named mask (key 1 0) && named mask (key 2 1) && named mask (key 1 2))) (15 ∷ [])
     ∷ not_sheet 2 (λ v. not (has v (used_in m))) m.vertices

@@ -9,7 +9,7 @@ use lib.ListN.{length}
 use lib.Dec.{ltb}
 use borrow.Author.Tests.{le-leb, lt-leb}
 use Rattle.rules.specs.Book.{dim, count, key, held, rows_of, frame_right, rows_right}
-use Rattle.rules.specs.Calls.{firstBroken, euler_rules, euler_number, used_vertices, held_rules, held_number}
+use Rattle.rules.specs.Calls.{first_broken, euler_rules, euler_number, used_vertices, held_rules, held_number}
 use Rattle.rules.proofs.FrameRule.{limit, framed, count-limit}
 use Rattle.rules.proofs.Members.{members-most}
 use Rattle.reading.specs.Parts.{evens, odds}
@@ -21,31 +21,31 @@ missing ws d = ltb d (dim ws) && not (held ws (key d 0))
 
 module _ (ws : List ℕ) where
   pub euler-10 : frame_right ws ≡ false → 10 ≡ euler_number ws
-  unfolding euler_number euler_rules firstBroken
+  unfolding euler_number euler_rules first_broken
   euler-10 f = rw f
 
   pub euler-11 : frame_right ws ≡ true → rows_right ws ≡ false → 11 ≡ euler_number ws
-  unfolding euler_number euler_rules firstBroken
+  unfolding euler_number euler_rules first_broken
   euler-11 f r = rw (f, r)
 
   pub euler-15-edges : frame_right ws ≡ true → rows_right ws ≡ true → missing ws 1 ≡ true → 15 ≡ euler_number ws
-  unfolding euler_number euler_rules firstBroken missing
+  unfolding euler_number euler_rules first_broken missing
   euler-15-edges f r e = rw (f, r, e)
 
   pub euler-15-faces : frame_right ws ≡ true → rows_right ws ≡ true → missing ws 1 ≡ false → missing ws 2 ≡ true → 15 ≡ euler_number ws
-  unfolding euler_number euler_rules firstBroken missing
+  unfolding euler_number euler_rules first_broken missing
   euler-15-faces f r e s = rw (f, r, e, s)
 
   pub euler-0 : frame_right ws ≡ true → rows_right ws ≡ true → missing ws 1 ≡ false → missing ws 2 ≡ false → 0 ≡ euler_number ws
-  unfolding euler_number euler_rules firstBroken missing
+  unfolding euler_number euler_rules first_broken missing
   euler-0 f r e s = rw (f, r, e, s)
 
   pub held-10 : frame_right ws ≡ false → 10 ≡ held_number ws
-  unfolding held_number held_rules firstBroken
+  unfolding held_number held_rules first_broken
   held-10 f = rw f
 
   pub held-0 : frame_right ws ≡ true → 0 ≡ held_number ws
-  unfolding held_number held_rules firstBroken
+  unfolding held_number held_rules first_broken
   held-0 f = rw f
 
   -- the sums, without and with their second part

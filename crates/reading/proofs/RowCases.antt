@@ -12,7 +12,7 @@ use borrow.Author.Tests.{eq-eqb, lt-ltb, le-ltb, le-leb, lt-leb, leb-true, not-t
 use Rattle.rules.specs.Lists.{all_of}
 use Rattle.rules.specs.Book.{dim, count, key, held, offset, total, row_start, frame_right}
 use Rattle.rules.specs.Broken.{broken_offset, row_broken_at, told}
-use Rattle.rules.specs.Calls.{firstBroken, row_rules, row_number, find_number}
+use Rattle.rules.specs.Calls.{first_broken, row_rules, row_number, find_number}
 use Rattle.rules.proofs.Compared.{lt-or-le}
 use Rattle.rules.proofs.Tests.{left, right}
 use Rattle.rules.proofs.Told.{untold-as}
@@ -25,36 +25,36 @@ offsets_right ws k i = leb (offset ws k i) (offset ws k (i + 1)) && leb (offset 
 
 module _ (ws : List ℕ) (d e i : ℕ) where
   pub row-10 : frame_right ws ≡ false → 10 ≡ row_number ws d e i
-  unfolding row_number row_rules firstBroken
+  unfolding row_number row_rules first_broken
   row-10 f = rw f
 
   module _ (f : frame_right ws ≡ true) where
     pub row-12-first : dim ws < d → 12 ≡ row_number ws d e i
-    unfolding row_number row_rules firstBroken
+    unfolding row_number row_rules first_broken
     row-12-first l = rw (f, lt-ltb (dim ws) d l)
 
     module _ (first : d ≤ dim ws) where
       pub row-12-second : dim ws < e → 12 ≡ row_number ws d e i
-      unfolding row_number row_rules firstBroken
+      unfolding row_number row_rules first_broken
       row-12-second l = rw (f, le-ltb (dim ws) d first, lt-ltb (dim ws) e l)
 
       module _ (second : e ≤ dim ws) where
         pub row-16 : held ws (key d e) ≡ false → 16 ≡ row_number ws d e i
-        unfolding row_number row_rules firstBroken
+        unfolding row_number row_rules first_broken
         row-16 h = rw (f, le-ltb (dim ws) d first, le-ltb (dim ws) e second, h)
 
         module _ (there : held ws (key d e) ≡ true) where
           pub row-17 : count ws d ≤ i → 17 ≡ row_number ws d e i
-          unfolding row_number row_rules firstBroken
+          unfolding row_number row_rules first_broken
           row-17 l = rw (f, le-ltb (dim ws) d first, le-ltb (dim ws) e second, there, le-leb (count ws d) i l)
 
           module _ (below : i < count ws d) where
             pub row-11 : offsets_right ws (key d e) i ≡ false → 11 ≡ row_number ws d e i
-            unfolding row_number row_rules firstBroken offsets_right
+            unfolding row_number row_rules first_broken offsets_right
             row-11 o = rw (f, le-ltb (dim ws) d first, le-ltb (dim ws) e second, there, lt-leb (count ws d) i below, o)
 
             pub row-0 : offsets_right ws (key d e) i ≡ true → 0 ≡ row_number ws d e i
-            unfolding row_number row_rules firstBroken offsets_right
+            unfolding row_number row_rules first_broken offsets_right
             row-0 o = rw (f, le-ltb (dim ws) d first, le-ltb (dim ws) e second, there, lt-leb (count ws d) i below, o)
 
   -- the place that comes with 11

@@ -10,7 +10,7 @@ use borrow.Author.Tests.{ne_eqb, lt-ltb, le-ltb, lt-leb, le-leb}
 use Rattle.rules.specs.Lists.{joined}
 use Rattle.rules.specs.File.{head_dim, head_cells, head_length, put_file}
 use Rattle.rules.specs.Book.{dim, count, key, rows_of, frame_right, rows_right}
-use Rattle.rules.specs.Calls.{firstBroken, written, write_length, write_rules, write_number, write_bytes}
+use Rattle.rules.specs.Calls.{first_broken, written, write_length, write_rules, write_number, write_bytes}
 use Rattle.rules.proofs.Bits.{write-length}
 use Rattle.rules.proofs.FrameRule.{framed, count-top}
 use Rattle.reading.specs.Parts.{FilePut}
@@ -53,10 +53,10 @@ module _ (ws bs : List ℕ) where
   refused n l e = record { number_is = sym e; length-is = λ z. absurd (omega arith); bytes-are = sym (bytes_of ws bs n e) }
 
   pub frame-broken : frame_right ws ≡ false → Puts ws bs 10 0 bs
-  frame-broken f = refused 9 0 (unfold write_number write_rules firstBroken in rw f)
+  frame-broken f = refused 9 0 (unfold write_number write_rules first_broken in rw f)
 
   pub rows-broken : frame_right ws ≡ true → rows_right ws ≡ false → Puts ws bs 11 0 bs
-  rows-broken f r = refused 10 0 (unfold write_number write_rules firstBroken in rw (f, r))
+  rows-broken f r = refused 10 0 (unfold write_number write_rules first_broken in rw (f, r))
 
   module _ (f : frame_right ws ≡ true) (r : rows_right ws ≡ true) (n : ℕ) (cs : List ℕ) (p : FilePut ws bs n cs) where
     pub too_short : length bs < n → Puts ws bs 18 0 cs
@@ -67,7 +67,7 @@ module _ (ws bs : List ℕ) where
         record { number_is = sym e; length-is = λ z. absurd (omega arith); bytes-are = c ∙ sym (bytes_of ws bs 17 e) }
       where
         number : length bs < write_length ws → write_number ws bs ≡ 18
-        number m = unfold write_number write_rules firstBroken in rw (f, r, lt-ltb (length bs) (write_length ws) m)
+        number m = unfold write_number write_rules first_broken in rw (f, r, lt-ltb (length bs) (write_length ws) m)
 
     pub all-put : n ≤ length bs → Puts ws bs 0 n cs
     all-put l =
@@ -76,7 +76,7 @@ module _ (ws bs : List ℕ) where
         record { number_is = sym e; length-is = λ z. p.size; bytes-are = p.bytes ∙ rw (le-leb (write_length ws) (length bs) m) (sym (bytes e)) }
       where
         number : write_length ws ≤ length bs → write_number ws bs ≡ 0
-        number m = unfold write_number write_rules firstBroken in rw (f, r, le-ltb (length bs) (write_length ws) m)
+        number m = unfold write_number write_rules first_broken in rw (f, r, le-ltb (length bs) (write_length ws) m)
 
         bytes : write_number ws bs ≡ 0 → write_bytes ws bs ≡ written ws ++ drop (write_length ws) bs
         bytes e = unfold write_bytes in rw e

@@ -14,7 +14,7 @@ use borrow.Author.Tests.{not-true, not-false, ltb-true, ltb-false, leb-false, eq
 use Rattle.rules.specs.Lists.{up_to, any_of, all_of, repeats, sorted, filled}
 use Rattle.rules.specs.File.{file_dim, file_vertices, file_cells, file_spare, length_of, cells_in_file, out_of, twice, pad_set}
 use Rattle.rules.specs.Book.{dim, count, key, held, needs, row_of, frame_right, rows_right}
-use Rattle.rules.specs.Calls.{Rule, rule, firstBroken, loaded, file_rules, load_rules, load_number, load_words, added, make_rules, make_number, make_words, asked, ask_rules, ask_number, ask_words, words_of, pairs_off, list_rules, list_number, list_words, row_rules, row_number, row_part, found_in, read_in, find_rules, find_number, find_found, find_read, differs, has_to_make, dropped, drop_rules, drop_number, drop_words, euler_rules, euler_number}
+use Rattle.rules.specs.Calls.{Rule, rule, first_broken, loaded, file_rules, load_rules, load_number, load_words, added, make_rules, make_number, make_words, asked, ask_rules, ask_number, ask_words, words_of, pairs_off, list_rules, list_number, list_words, row_rules, row_number, row_part, found_in, read_in, find_rules, find_number, find_found, find_read, differs, has_to_make, dropped, drop_rules, drop_number, drop_words, euler_rules, euler_number}
 use Rattle.rules.specs.Phases.{counted}
 use Rattle.rules.specs.Closures.{lengths_right, close_rules, close_number}
 use Rattle.rules.specs.Boxes.{coordinate_rules, box_rules, box_number, whole_rules, whole_number}
@@ -25,43 +25,43 @@ use Rattle.rules.proofs.Tests.{left, right, or_cases, neither, none_of}
 use Rattle.rules.proofs.Keep.{up_to-of}
 
 -- where the answer is 0 and no rule's answer is, no rule was broken
-pub unbroken : (rs : List (Rule ℕ)) → all_of (λ r. ltb 0 r.answer) rs ≡ true → firstBroken rs 0 ≡ 0 → all_of (λ r. not r.broken) rs ≡ true
-unfolding all_of firstBroken
+pub unbroken : (rs : List (Rule ℕ)) → all_of (λ r. ltb 0 r.answer) rs ≡ true → first_broken rs 0 ≡ 0 → all_of (λ r. not r.broken) rs ≡ true
+unfolding all_of first_broken
 unbroken [] p h = refl
 unbroken (r ∷ rs) p h = go r.broken refl h (unbroken rs (right (ltb 0 r.answer) _ p))
   where
     l : 0 < r.answer
     l = search (left, ltb-true)
 
-    go : (b : Bool) → r.broken ≡ b → cond b r.answer (firstBroken rs 0) ≡ 0
-        → (firstBroken rs 0 ≡ 0 → all_of (λ r. not r.broken) rs ≡ true) → (not r.broken && all_of (λ r. not r.broken) rs) ≡ true
+    go : (b : Bool) → r.broken ≡ b → cond b r.answer (first_broken rs 0) ≡ 0
+        → (first_broken rs 0 ≡ 0 → all_of (λ r. not r.broken) rs ≡ true) → (not r.broken && all_of (λ r. not r.broken) rs) ≡ true
     go true q h ih = absurd (omega (arith, l))
     go false q h ih = rw q (ih h)
 
 -- rules whose answers carry more than a number: the answer's number is that of the rules with their numbers alone
-pub first-number {ℓ} : {A : Type ℓ} (n : A → ℕ) (rs : List (Rule A)) (a : A) → n (firstBroken rs a) ≡ firstBroken (map (λ r. rule r.broken (n r.answer)) rs) (n a)
-unfolding firstBroken
+pub first-number {ℓ} : {A : Type ℓ} (n : A → ℕ) (rs : List (Rule A)) (a : A) → n (first_broken rs a) ≡ first_broken (map (λ r. rule r.broken (n r.answer)) rs) (n a)
+unfolding first_broken
 first-number n [] a = refl
 first-number n (r ∷ rs) a = go r.broken (first-number n rs a)
   where
-    go : (b : Bool) → n (firstBroken rs a) ≡ firstBroken (map (λ r. rule r.broken (n r.answer)) rs) (n a)
-        → n (cond b r.answer (firstBroken rs a)) ≡ cond b (n r.answer) (firstBroken (map (λ r. rule r.broken (n r.answer)) rs) (n a))
+    go : (b : Bool) → n (first_broken rs a) ≡ first_broken (map (λ r. rule r.broken (n r.answer)) rs) (n a)
+        → n (cond b r.answer (first_broken rs a)) ≡ cond b (n r.answer) (first_broken (map (λ r. rule r.broken (n r.answer)) rs) (n a))
     go true e = refl
     go false e = e
 
 -- rules behind other rules: their answer counts where none of the first is broken
 pub first-append : (rs qs : List (Rule ℕ)) → all_of (λ r. ltb 0 r.answer) rs ≡ true
-    → firstBroken (rs ++ qs) 0 ≡ cond (eqb (firstBroken rs 0) 0) (firstBroken qs 0) (firstBroken rs 0)
-unfolding all_of firstBroken
+    → first_broken (rs ++ qs) 0 ≡ cond (eqb (first_broken rs 0) 0) (first_broken qs 0) (first_broken rs 0)
+unfolding all_of first_broken
 first-append [] qs p = refl
 first-append (r ∷ rs) qs p = go r.broken (first-append rs qs (right (ltb 0 r.answer) _ p))
   where
     l : 0 < r.answer
     l = search (left, ltb-true)
 
-    go : (b : Bool) → firstBroken (rs ++ qs) 0 ≡ cond (eqb (firstBroken rs 0) 0) (firstBroken qs 0) (firstBroken rs 0)
-        → cond b r.answer (firstBroken (rs ++ qs) 0)
-        ≡ cond (eqb (cond b r.answer (firstBroken rs 0)) 0) (firstBroken qs 0) (cond b r.answer (firstBroken rs 0))
+    go : (b : Bool) → first_broken (rs ++ qs) 0 ≡ cond (eqb (first_broken rs 0) 0) (first_broken qs 0) (first_broken rs 0)
+        → cond b r.answer (first_broken (rs ++ qs) 0)
+        ≡ cond (eqb (cond b r.answer (first_broken rs 0)) 0) (first_broken qs 0) (cond b r.answer (first_broken rs 0))
     go true e = rw (ne_eqb r.answer 0 (omega (arith, l)))
     go false e = e
 
@@ -106,7 +106,7 @@ loads f ws h =
 -- and it is accepted if all that holds
 -- a file without a fault is refused with 13 alone, where the book is too short
 pub load-room : (f us ws : List ℕ) → Loads f us → load_number f ws ≡ cond (ltb (length ws) (length (loaded f))) 13 0
-unfolding load_number load_rules file_rules firstBroken
+unfolding load_number load_rules file_rules first_broken
 load-room f us ws a =
     let l : 4 ≤ length f = rw a.size (unfold length_of in omega arith) in
     rw (le-ltb (length f) 4 l, ne_eqb (file_dim f) 0 (omega (arith, a.low)), le-ltb 8192 (file_vertices f) a.vertices, le-ltb 4096 (file_cells f) a.cells, le-ltb 0 (file_spare f) (omega (arith, a.spare)), eq-eqb (length f) (length_of (file_dim f) (file_cells f)) a.size, a.within, a.apart, a.unlike, a.ended)
@@ -207,7 +207,7 @@ pairs-two p n h =
     omega arith
 
 pub list-accepted : (ps ns : List ℕ) → list_number ps ns ≡ 0 → length ps ≡ 2 * length ns
-unfolding list_number list_rules firstBroken
+unfolding list_number list_rules first_broken
 list-accepted ps ns h =
     pairs-two (length ps) (length ns) (go (pairs_off (length ps) (length ns)) h)
   where
@@ -298,7 +298,7 @@ row_is ws d e i = refl
 -- Find's number is Row's, and 19 where Row accepts and j is N_e or more
 pub find-is : (ws : List ℕ) (d e i j : ℕ) → find_number ws d e i j ≡ cond (eqb (row_number ws d e i) 0) (cond (leb (count ws e) j) 19 0) (row_number ws d e i)
 unfolding find_number find_rules row_number
-find-is ws d e i j = first-append (row_rules ws d e i) _ (unfold all_of row_rules in refl) ∙ unfold firstBroken in refl
+find-is ws d e i j = first-append (row_rules ws d e i) _ (unfold all_of row_rules in refl) ∙ unfold first_broken in refl
 
 -- an accepted Find has an accepted row, and j is below N_e
 pub finds : (ws : List ℕ) (d e i j : ℕ) → find_number ws d e i j ≡ 0 → (row_number ws d e i ≡ 0) × (j < count ws e)
@@ -449,7 +449,7 @@ salvages f bytes list h =
 
 -- and it is accepted if all that holds
 pub salvage-accepts : (f bytes list : List ℕ) → Salvages f bytes list → salvage_number f bytes list ≡ 0
-unfolding salvage_number salvage_rules firstBroken
+unfolding salvage_number salvage_rules first_broken
 salvage-accepts f bytes list a =
     let h = a.head in
     rw (le-ltb (length f) 4 h.long, ne_eqb (file_dim f) 0 (omega (arith, h.low)), le-ltb 8192 (file_vertices f) h.vertices, le-ltb 4096 (file_cells f) h.cells, le-ltb (length bytes) (saved_length f) a.room, le-ltb (length list) (2 * file_cells f) a.places)

@@ -15,9 +15,9 @@ use Rattle.rules.proofs.Keep.{keep-agree, keep-of, keep-is}
 use Rattle.rules.proofs.Distinct.{Distinct}
 
 -- the sum of f over the members
-unfoldable pub sumOver {ℓ} : {A : Type ℓ} → (A → ℕ) → List A → ℕ
-sumOver f [] = 0
-sumOver f (x ∷ xs) = f x + sumOver f xs
+unfoldable pub sum_over {ℓ} : {A : Type ℓ} → (A → ℕ) → List A → ℕ
+sum_over f [] = 0
+sum_over f (x ∷ xs) = f x + sum_over f xs
 
 module _ {ℓ} {A : Type ℓ} where
   -- one more or none
@@ -43,17 +43,17 @@ module _ {ℓ} {A : Type ℓ} where
   keep-swap p q xs = keep-keep p q xs ∙ keep-agree (λ x. q x && p x) (λ x. p x && q x) xs (λ x i. and_comm (q x) (p x)) ∙ sym (keep-keep q p xs)
 
   -- a sum of even numbers is even, and one of ones and twos is as odd as the ones are
-  pub sum-even : (f : A → ℕ) (xs : List A) → ((x : A) → In x xs → f x % 2 ≡ 0) → sumOver f xs % 2 ≡ 0
-  unfolding sumOver
+  pub sum-even : (f : A → ℕ) (xs : List A) → ((x : A) → In x xs → f x % 2 ≡ 0) → sum_over f xs % 2 ≡ 0
+  unfolding sum_over
   sum-even f [] h = refl
   sum-even f (x ∷ xs) h = omega (arith, h x (here refl), sum-even f xs (λ y i. h y (there i)))
 
-  pub sum_ones : (f : A → ℕ) (xs : List A) → ((x : A) → In x xs → (f x ≡ 1) ⊎ (f x ≡ 2)) → sumOver f xs % 2 ≡ length (keep (λ x. eqb (f x) 1) xs) % 2
-  unfolding sumOver
+  pub sum_ones : (f : A → ℕ) (xs : List A) → ((x : A) → In x xs → (f x ≡ 1) ⊎ (f x ≡ 2)) → sum_over f xs % 2 ≡ length (keep (λ x. eqb (f x) 1) xs) % 2
+  unfolding sum_over
   sum_ones f [] h = unfold keep in refl
   sum_ones f (x ∷ xs) h = rw (count-cons (λ y. eqb (f y) 1) x xs) (go (h x (here refl)) (sum_ones f xs (λ y i. h y (there i))))
     where
-      go : (f x ≡ 1) ⊎ (f x ≡ 2) → sumOver f xs % 2 ≡ length (keep (λ y. eqb (f y) 1) xs) % 2 → (f x + sumOver f xs) % 2 ≡ (cond (eqb (f x) 1) 1 0 + length (keep (λ y. eqb (f y) 1) xs)) % 2
+      go : (f x ≡ 1) ⊎ (f x ≡ 2) → sum_over f xs % 2 ≡ length (keep (λ y. eqb (f y) 1) xs) % 2 → (f x + sum_over f xs) % 2 ≡ (cond (eqb (f x) 1) 1 0 + length (keep (λ y. eqb (f y) 1) xs)) % 2
       go (inl e) k = rw e (omega arith)
       go (inr e) k = rw e (omega arith)
 
@@ -113,8 +113,8 @@ module _ {ℓ} {A : Type ℓ} where
       (λ x i. let (j, t) = keep-is p ys i in keep-of p xs (g x j) t)
 
   -- terms that agree
-  pub sum-agree : (f g : A → ℕ) (xs : List A) → ((x : A) → In x xs → f x ≡ g x) → sumOver f xs ≡ sumOver g xs
-  unfolding sumOver
+  pub sum-agree : (f g : A → ℕ) (xs : List A) → ((x : A) → In x xs → f x ≡ g x) → sum_over f xs ≡ sum_over g xs
+  unfolding sum_over
   sum-agree f g [] h = refl
   sum-agree f g (x ∷ xs) h = rw (h x (here refl), sum-agree f g xs (λ y i. h y (there i)))
 
@@ -128,26 +128,26 @@ module _ {ℓ κ} {A : Type ℓ} {B : Type κ} where
       go true e = rw e
       go false e = e
 
-  pub sum-map : (f : B → ℕ) (g : A → B) (xs : List A) → sumOver f (map g xs) ≡ sumOver (λ x. f (g x)) xs
-  unfolding sumOver
+  pub sum-map : (f : B → ℕ) (g : A → B) (xs : List A) → sum_over f (map g xs) ≡ sum_over (λ x. f (g x)) xs
+  unfolding sum_over
   sum-map f g [] = refl
   sum-map f g (x ∷ xs) = ap (λ (n : ℕ). f (g x) + n) (sum-map f g xs)
 
   -- ---- pairs of a member of xs and a member of ys, counted from either side
-  sum-none : (r : A → B → Bool) (ys : List B) → sumOver (λ y. length (keep (λ z. r z y) [])) ys ≡ 0
-  unfolding sumOver keep
+  sum-none : (r : A → B → Bool) (ys : List B) → sum_over (λ y. length (keep (λ z. r z y) [])) ys ≡ 0
+  unfolding sum_over keep
   sum-none r [] = refl
   sum-none r (y ∷ ys) = omega (arith, sum-none r ys)
 
-  sum_more : (r : A → B → Bool) (x : A) (xs : List A) (ys : List B) → sumOver (λ y. length (keep (λ z. r z y) (x ∷ xs))) ys ≡ length (keep (r x) ys) + sumOver (λ y. length (keep (λ z. r z y) xs)) ys
-  unfolding sumOver
+  sum_more : (r : A → B → Bool) (x : A) (xs : List A) (ys : List B) → sum_over (λ y. length (keep (λ z. r z y) (x ∷ xs))) ys ≡ length (keep (r x) ys) + sum_over (λ y. length (keep (λ z. r z y) xs)) ys
+  unfolding sum_over
   sum_more r x xs [] = unfold keep in refl
   sum_more r x xs (y ∷ ys) =
       let a = count-cons (λ z. r z y) x xs in
       let b = count-cons (r x) y ys in
       omega (arith, sum_more r x xs ys)
 
-  pub pairs : (r : A → B → Bool) (xs : List A) (ys : List B) → sumOver (λ x. length (keep (r x) ys)) xs ≡ sumOver (λ y. length (keep (λ x. r x y) xs)) ys
-  unfolding sumOver
+  pub pairs : (r : A → B → Bool) (xs : List A) (ys : List B) → sum_over (λ x. length (keep (r x) ys)) xs ≡ sum_over (λ y. length (keep (λ x. r x y) xs)) ys
+  unfolding sum_over
   pairs r [] ys = sym (sum-none r ys)
   pairs r (x ∷ xs) ys = rw (sum_more r x xs ys) (ap (λ (n : ℕ). length (keep (r x) ys) + n) (pairs r xs ys))

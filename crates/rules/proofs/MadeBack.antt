@@ -12,7 +12,7 @@ use borrow.Author.Tests.{eq-eqb, ne_eqb, le-ltb, lt-ltb, ltb-true, eqb-true}
 use Rattle.rules.specs.Lists.{filled}
 use Rattle.rules.specs.Book.{dim, count, key, held, mentions, rows_of, relation, most, count_right, Right}
 use Rattle.rules.specs.Made.{made}
-use Rattle.rules.specs.Calls.{firstBroken, count_after, added, make_number, make_words, count_left, dropped, drop_rules, drop_number, drop_words}
+use Rattle.rules.specs.Calls.{first_broken, count_after, added, make_number, make_words, count_left, dropped, drop_rules, drop_number, drop_words}
 use Rattle.rules.proofs.Tests.{left, right, and-off}
 use Rattle.rules.proofs.FrameRule.{Framed, framed, count-inner}
 use Rattle.rules.proofs.Assembled.{assembled, assembled-is}
@@ -28,7 +28,7 @@ use Rattle.rules.proofs.Growing.{relations-agree, filled-used, dim-filled, held-
 
 -- Drop accepts where nothing speaks against it
 pub drop-accepts : (ws : List ℕ) → Right ws → (d e : ℕ) → Drops ws d e → drop_number ws d e ≡ 0
-unfolding drop_number drop_rules firstBroken
+unfolding drop_number drop_rules first_broken
 drop-accepts ws g d e a = rw (g.frame, g.rows, le-ltb (dim ws) d a.first, le-ltb (dim ws) e a.second, a.there, last)
   where
     last : (eqb d (dim ws) && eqb e 0) ≡ false

@@ -12,7 +12,7 @@ use lib.Dec.{eqb, leb}
 use borrow.Author.Tests.{eqb-true, eqb-false, ltb-false, leb-false, not-true}
 use Rattle.rules.specs.Lists.{up_to, any_of, all_of, same, repeats, joined, sorted, keep}
 use Rattle.rules.specs.File.{field, file_dim, file_vertices, file_cells, file_cell, cells_in_file, bits_of, length_of, out_of, twice, file_bytes, put_file}
-use Rattle.rules.specs.Calls.{rule, firstBroken, loaded, at_front}
+use Rattle.rules.specs.Calls.{rule, first_broken, loaded, at_front}
 use Rattle.rules.specs.Truth.{Mesh, first_word}
 use Rattle.rules.specs.Salvage.{Headed, cut_off, equal_to, cell_fault, kept_of, why, kept, dropped_of, pairs_of, dropped_pairs, dropped_count, saved_head, saved, saved_length}
 use Rattle.rules.proofs.Tests.{cases, left, right, any_none, none_of, same-is, same_refl}
@@ -46,7 +46,7 @@ fine f before c h =
     }
 
 pub fine-kept : (f : List ℕ) (before : List (List ℕ)) (c : ℕ) → Fine f before c → cell_fault f before c ≡ 0
-unfolding cell_fault firstBroken
+unfolding cell_fault first_broken
 fine-kept f before c a = rw (a.whole, a.within, a.once, a.new)
 
 -- ---- the cells kept

@@ -12,7 +12,7 @@ use lib.ListN.{length}
 use lib.Dec.{leb}
 use borrow.Author.Tests.{ltb-false, le-ltb}
 use Rattle.rules.specs.Lists.{up_to, any_of, same, repeated, sorted}
-use Rattle.rules.specs.Calls.{firstBroken}
+use Rattle.rules.specs.Calls.{first_broken}
 use Rattle.rules.specs.File.{file_dim, file_vertices, file_cells, file_cell, cells_in_file, bits_of, out_of, twice}
 use Rattle.rules.specs.Salvage.{equal_to, cut_off, cell_fault, kept_of, why}
 use Rattle.rules.proofs.Tests.{cases, agree, any-of, any-is, same-is, same_refl}
@@ -126,7 +126,7 @@ module _ (f : List ℕ) where
 
   -- so why a cell is dropped can be told from the file alone
   pub why-alone : (n : ℕ) → why f n ≡ cell_fault f (map (file_cell f) (up_to n)) n
-  unfolding why cell_fault firstBroken
+  unfolding why cell_fault first_broken
   why-alone n = go (cut_off f n) refl (out_of (file_vertices f) (file_cell f n)) refl (twice (file_cell f n)) refl
     where
       go : (a : Bool) → cut_off f n ≡ a → (b : Bool) → out_of (file_vertices f) (file_cell f n) ≡ b → (c : Bool) → twice (file_cell f n) ≡ c

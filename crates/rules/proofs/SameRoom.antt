@@ -15,7 +15,7 @@ use Rattle.rules.specs.SameCells.{SameCells}
 use Rattle.rules.proofs.Tests.{cases, agree, same-is, same_refl}
 use Rattle.rules.proofs.Keep.{keep-agree, up_to-is}
 use Rattle.rules.proofs.Relation.{length-relation}
-use Rattle.rules.proofs.Counted.{sumOver, distinct-keep, sum-agree, pairs}
+use Rattle.rules.proofs.Counted.{sum_over, distinct-keep, sum-agree, pairs}
 use Rattle.rules.proofs.Incidence.{incident-down, incident-up, incident-level}
 use Rattle.rules.proofs.TrueRows.{length-true_rows}
 use Rattle.rules.proofs.TrueFacts.{entities-distinct, one_place, by_number, sum_number}
@@ -23,8 +23,8 @@ use Rattle.rules.proofs.TrueBook.{true_used}
 use Rattle.rules.proofs.SameCells.{there-too, back-too, same_points, same_numbers}
 
 -- ---- the indices of a relation, counted
-length-joined-map : (g : ℕ → List ℕ) (xs : List ℕ) → length (joined (map g xs)) ≡ sumOver (λ x. length (g x)) xs
-unfolding joined sumOver
+length-joined-map : (g : ℕ → List ℕ) (xs : List ℕ) → length (joined (map g xs)) ≡ sum_over (λ x. length (g x)) xs
+unfolding joined sum_over
 length-joined-map g [] = refl
 length-joined-map g (x ∷ xs) = rw (length-append) (ap (λ (n : ℕ). length (g x) + n) (length-joined-map g xs))
 
@@ -57,7 +57,7 @@ module _ (m : Mesh) (once : repeats m.cells ≡ false) (d e : ℕ) (low : d ≡ 
           rw (h, t, q) (incident-level m d i j ∙ rw (z, same-entity i j a b'))
 
   -- the indices of d→e are the pairs of its entities that touch
-  indices-are : length (joined (true_rows m d e)) ≡ sumOver (λ s. length (keep (touches d e s) (entities m e))) (entities m d)
+  indices-are : length (joined (true_rows m d e)) ≡ sum_over (λ s. length (keep (touches d e s) (entities m e))) (entities m d)
   unfolding true_rows rows_by
   indices-are =
       length-joined-map (λ i. keep (incident m d e i) (up_to (number m e))) (up_to (number m d))
@@ -72,7 +72,7 @@ module _ (m n : Mesh) (c : SameCells m n) (first : repeats m.cells ≡ false) (s
   as_many : (d : ℕ) (p : List ℕ → Bool) → length (keep p (entities m d)) ≡ length (keep p (entities n d))
   as_many d p = distinct-keep p (entities m d) (entities n d) (entities-distinct m first d) (entities-distinct n second d) (there-too m n c d) (back-too m n c d)
 
-  as-many-pairs : (d e : ℕ) (r : List ℕ → List ℕ → Bool) → sumOver (λ s. length (keep (r s) (entities m e))) (entities m d) ≡ sumOver (λ s. length (keep (r s) (entities n e))) (entities n d)
+  as-many-pairs : (d e : ℕ) (r : List ℕ → List ℕ → Bool) → sum_over (λ s. length (keep (r s) (entities m e))) (entities m d) ≡ sum_over (λ s. length (keep (r s) (entities n e))) (entities n d)
   as-many-pairs d e r =
       pairs r (entities m d) (entities m e)
       ∙ sum-agree (λ t. length (keep (λ s. r s t) (entities m d))) (λ t. length (keep (λ s. r s t) (entities n d))) (entities m e) (λ t i. as_many d (λ s. r s t))

@@ -11,7 +11,7 @@ use borrow.Author.Tests.{not-true, not-false, ltb-false, eqb-true}
 use Rattle.rules.specs.Lists.{up_to, all_of, has, ascends}
 use Rattle.rules.specs.Book.{dim, count, key, held, frame_right}
 use Rattle.rules.specs.Broken.{rows_broken}
-use Rattle.rules.specs.Calls.{Rule, rule, firstBroken}
+use Rattle.rules.specs.Calls.{Rule, rule, first_broken}
 use Rattle.rules.specs.Sheet.{Sheet, edges_of, cells_at, across_at, across, branched, unmatched, rim_edges_of, rim_vertices_of, rim_length_of, sheet_rules, sheet_answer, sheet_number}
 use Rattle.rules.proofs.Tests.{left, right, neither, off-left, off-right, or_cases, none_of, all-at}
 use Rattle.rules.proofs.Keep.{up_to-of}
@@ -36,7 +36,7 @@ pub record Sheets (ws : List ℕ) (acrosses bytes vertices edges : ℕ) : Type 0
 numbers : List ℕ → ℕ → ℕ → ℕ → ℕ → List (Rule ℕ)
 numbers ws acrosses bytes vertices edges = map (λ r. rule r.broken (get_or r.answer 0 0)) (sheet_rules ws acrosses bytes vertices edges)
 
-number_is : (ws : List ℕ) (acrosses bytes vertices edges : ℕ) → sheet_number ws acrosses bytes vertices edges ≡ firstBroken (numbers ws acrosses bytes vertices edges) 0
+number_is : (ws : List ℕ) (acrosses bytes vertices edges : ℕ) → sheet_number ws acrosses bytes vertices edges ≡ first_broken (numbers ws acrosses bytes vertices edges) 0
 unfolding sheet_number sheet_answer numbers
 number_is ws acrosses bytes vertices edges = first-number (λ (r : List ℕ). get_or r 0 0) (sheet_rules ws acrosses bytes vertices edges) (0 ∷ [])
 

@@ -11,7 +11,7 @@ use borrow.Author.Tests.{eqb-false, not-true, not-false}
 use Rattle.rules.specs.Lists.{all_of}
 use Rattle.rules.specs.Book.{key, frame_right, rows_right}
 use Rattle.rules.specs.Broken.{broken_key, broken_place, rows_broken, broken_at, broken_offset, row_broken_at, told}
-use Rattle.rules.specs.Calls.{Rule, rule, firstBroken}
+use Rattle.rules.specs.Calls.{Rule, rule, first_broken}
 use Rattle.rules.proofs.Tests.{cases, left, right}
 use Rattle.rules.proofs.BrokenFound.{rows-found}
 
@@ -33,21 +33,21 @@ module _ (ws : List ℕ) (f : frame_right ws ≡ true) where
   some-wrong b e = elim (cases (rows_right ws)) [ inl r ↦ absurd (none-ne-some b (sym (right-none r) ∙ e)) | inr r ↦ r ]
 
 -- ---- a call's number
-no-eleven : (rs : List (Rule ℕ)) → all_of (λ r. not (eqb r.answer 11)) rs ≡ true → firstBroken rs 0 ≡ 11 → ⊥
-unfolding all_of firstBroken
+no-eleven : (rs : List (Rule ℕ)) → all_of (λ r. not (eqb r.answer 11)) rs ≡ true → first_broken rs 0 ≡ 11 → ⊥
+unfolding all_of first_broken
 no-eleven [] p z = omega arith
 no-eleven (r ∷ rs) p z = go r.broken z (no-eleven rs (right (not (eqb r.answer 11)) (all_of (λ r. not (eqb r.answer 11)) rs) p))
   where
-    go : (b : Bool) → cond b r.answer (firstBroken rs 0) ≡ 11 → (firstBroken rs 0 ≡ 11 → ⊥) → ⊥
+    go : (b : Bool) → cond b r.answer (first_broken rs 0) ≡ 11 → (first_broken rs 0 ≡ 11 → ⊥) → ⊥
     go true q ih = eqb-false r.answer 11 (not-true (eqb r.answer 11) (left (not (eqb r.answer 11)) (all_of (λ r. not (eqb r.answer 11)) rs) p)) q
     go false q ih = ih q
 
 pub eleven-broken : (ws : List ℕ) (rs : List (Rule ℕ)) → all_of (λ r. not (eqb r.answer 11)) rs ≡ true
-    → firstBroken (rule (not (frame_right ws)) 10 ∷ rule (not (rows_right ws)) 11 ∷ rs) 0 ≡ 11 → (frame_right ws ≡ true) × (rows_broken ws ≡ true)
-unfolding firstBroken
+    → first_broken (rule (not (frame_right ws)) 10 ∷ rule (not (rows_right ws)) 11 ∷ rs) 0 ≡ 11 → (frame_right ws ≡ true) × (rows_broken ws ≡ true)
+unfolding first_broken
 eleven-broken ws rs p z = go (frame_right ws) refl (rows_right ws) refl z
   where
-    go : (a : Bool) → frame_right ws ≡ a → (b : Bool) → rows_right ws ≡ b → cond (not a) 10 (cond (not b) 11 (firstBroken rs 0)) ≡ 11 → (frame_right ws ≡ true) × (rows_broken ws ≡ true)
+    go : (a : Bool) → frame_right ws ≡ a → (b : Bool) → rows_right ws ≡ b → cond (not a) 10 (cond (not b) 11 (first_broken rs 0)) ≡ 11 → (frame_right ws ≡ true) × (rows_broken ws ≡ true)
     go false x b y q = absurd (eqb-false 10 11 refl q)
     go true x false y q = (x, not-false (rows_broken ws) (sym (rows-found ws x) ∙ y))
     go true x true y q = absurd (no-eleven rs p q)

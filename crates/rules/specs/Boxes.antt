@@ -5,7 +5,7 @@ use Rattle.std.specs.Float.Ieee.{lt}
 use Rattle.std.specs.Float.Ieee.Scale.{finite}
 use Rattle.rules.specs.Lists.{all_of}
 use Rattle.rules.specs.Book.{dim, count, key, held, row_of, frame_right, rows_right}
-use Rattle.rules.specs.Calls.{Rule, rule, firstBroken, used_vertices}
+use Rattle.rules.specs.Calls.{Rule, rule, first_broken, used_vertices}
 
 -- ==== ends
 -- strictly greater
@@ -75,7 +75,7 @@ box_rules ws coordinates axes d i =
 
 -- its number, 0 where accepted
 unfoldable pub box_number : List ℕ → List Float → ℕ → ℕ → ℕ → ℕ
-box_number ws coordinates axes d i = firstBroken (box_rules ws coordinates axes d i) 0
+box_number ws coordinates axes d i = first_broken (box_rules ws coordinates axes d i) 0
 
 -- what it gives: the entity's box, nothing on a refusal
 unfoldable pub box_given : List ℕ → List Float → ℕ → ℕ → ℕ → List Float
@@ -90,7 +90,7 @@ whole_rules ws coordinates axes =
 
 -- its number, 0 where accepted
 unfoldable pub whole_number : List ℕ → List Float → ℕ → ℕ
-whole_number ws coordinates axes = firstBroken (whole_rules ws coordinates axes) 0
+whole_number ws coordinates axes = first_broken (whole_rules ws coordinates axes) 0
 
 -- what it gives: the whole mesh's box, nothing on a refusal
 unfoldable pub whole_given : List ℕ → List Float → ℕ → List Float

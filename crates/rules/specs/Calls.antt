@@ -17,9 +17,9 @@ abbrev pub rule : Bool → ℕ → Rule ℕ
 rule b n = record { broken = b; answer = n }
 
 -- the answer of the first rule that is broken, else a
-unfoldable pub firstBroken {ℓ} : {A : Type ℓ} → List (Rule A) → A → A
-firstBroken [] a = a
-firstBroken (r ∷ rs) a = cond r.broken r.answer (firstBroken rs a)
+unfoldable pub first_broken {ℓ} : {A : Type ℓ} → List (Rule A) → A → A
+first_broken [] a = a
+first_broken (r ∷ rs) a = cond r.broken r.answer (first_broken rs a)
 
 -- ==== "Calls": Load
 -- the words of an accepted file, without their free part: D→0 alone is held, each cell ascending
@@ -45,7 +45,7 @@ file_rules f =
 
 -- the number of a file's first fault, 0 where it has none
 unfoldable pub file_number : List ℕ → ℕ
-file_number f = firstBroken (file_rules f) 0
+file_number f = first_broken (file_rules f) 0
 
 -- with 7 and 8: the number of the lowest cell with that fault; with 23: of the lowest cell that repeats an earlier one
 unfoldable pub fault_cell : List ℕ → ℕ
@@ -59,7 +59,7 @@ load_rules f ws = file_rules f ++ (rule (ltb (length ws) (length (loaded f))) 13
 
 -- Load's number, 0 where accepted
 unfoldable pub load_number : List ℕ → List ℕ → ℕ
-load_number f ws = firstBroken (load_rules f ws) 0
+load_number f ws = first_broken (load_rules f ws) 0
 
 -- the cell that comes with Load's number: with 7, 8 and 23 the lowest cell with that fault, else 0
 unfoldable pub load_cell : List ℕ → List ℕ → ℕ
@@ -103,7 +103,7 @@ make_rules ws d e =
 
 -- Make's number, 0 where accepted
 unfoldable pub make_number : List ℕ → ℕ → ℕ → ℕ
-make_number ws d e = firstBroken (make_rules ws d e) 0
+make_number ws d e = first_broken (make_rules ws d e) 0
 
 -- the book after Make
 unfoldable pub make_words : List ℕ → ℕ → ℕ → List ℕ
@@ -141,7 +141,7 @@ ask_rules ws d e =
 
 -- Ask's number, 0 where accepted
 unfoldable pub ask_number : List ℕ → ℕ → ℕ → ℕ
-ask_number ws d e = firstBroken (ask_rules ws d e) 0
+ask_number ws d e = first_broken (ask_rules ws d e) 0
 
 -- the book after Ask
 unfoldable pub ask_words : List ℕ → ℕ → ℕ → List ℕ
@@ -170,7 +170,7 @@ list_rules ps ns = rule (pairs_off (length ps) (length ns)) 20 ∷ []
 
 -- the list's number, 0 where accepted
 unfoldable pub list_number : List ℕ → List ℕ → ℕ
-list_number ps ns = firstBroken (list_rules ps ns) 0
+list_number ps ns = first_broken (list_rules ps ns) 0
 
 -- the answers after the list: one number a pair, 0 where accepted
 unfoldable pub list_answers : List ℕ → List ℕ → List ℕ → List ℕ
@@ -207,7 +207,7 @@ drop_rules ws d e =
 
 -- Drop's number, 0 where accepted
 unfoldable pub drop_number : List ℕ → ℕ → ℕ → ℕ
-drop_number ws d e = firstBroken (drop_rules ws d e) 0
+drop_number ws d e = first_broken (drop_rules ws d e) 0
 
 -- the book after Drop: what is freed is zeroed
 unfoldable pub drop_words : List ℕ → ℕ → ℕ → List ℕ
@@ -226,7 +226,7 @@ row_rules ws d e i =
 
 -- Row's number, 0 where accepted
 unfoldable pub row_number : List ℕ → ℕ → ℕ → ℕ → ℕ
-row_number ws d e i = firstBroken (row_rules ws d e i) 0
+row_number ws d e i = first_broken (row_rules ws d e i) 0
 
 -- the part of the book that Row hands back, empty on a refusal
 unfoldable pub row_part : List ℕ → ℕ → ℕ → ℕ → List ℕ
@@ -255,7 +255,7 @@ find_rules ws d e i j = row_rules ws d e i ++ (rule (leb (count ws e) j) 19 ∷ 
 
 -- Find's number, 0 where accepted
 unfoldable pub find_number : List ℕ → ℕ → ℕ → ℕ → ℕ → ℕ
-find_number ws d e i j = firstBroken (find_rules ws d e i j) 0
+find_number ws d e i j = first_broken (find_rules ws d e i j) 0
 
 -- whether j is in row i of d→e, no on a refusal
 unfoldable pub find_found : List ℕ → ℕ → ℕ → ℕ → ℕ → Bool
@@ -284,7 +284,7 @@ write_rules ws bs =
 
 -- Write's number, 0 where accepted
 unfoldable pub write_number : List ℕ → List ℕ → ℕ
-write_number ws bs = firstBroken (write_rules ws bs) 0
+write_number ws bs = first_broken (write_rules ws bs) 0
 
 -- the bytes after Write: later bytes are left as they were
 unfoldable pub write_bytes : List ℕ → List ℕ → List ℕ
@@ -301,7 +301,7 @@ euler_rules ws =
 
 -- Euler's number, 0 where accepted
 unfoldable pub euler_number : List ℕ → ℕ
-euler_number ws = firstBroken (euler_rules ws) 0
+euler_number ws = first_broken (euler_rules ws) 0
 
 -- with v vertices, and n d for N_d: v − N_1 for D = 1, v − N_1 + N_2 for 2, v − N_1 + N_2 − N_3 for 3
 unfoldable pub alternating : ℕ → ℕ → (ℕ → ℕ) → ℤ
@@ -323,7 +323,7 @@ held_rules ws = rule (not (frame_right ws)) 10 ∷ []
 
 -- Held count's number, 0 where accepted
 unfoldable pub held_number : List ℕ → ℕ
-held_number ws = firstBroken (held_rules ws) 0
+held_number ws = first_broken (held_rules ws) 0
 
 -- the number of relations held
 unfoldable pub held_count : List ℕ → ℕ

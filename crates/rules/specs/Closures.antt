@@ -2,7 +2,7 @@
 use Rattle.std.specs.Prelude.{Bool, cond, not, ◌&&◌, ◌||◌, List, [], ◌∷◌, map, ℕ, length, get_or, eqb, ℤ, pos, Float}
 use Rattle.rules.specs.Lists.{all_of}
 use Rattle.rules.specs.Book.{dim, count, key, held, rows_of, frame_right, rows_right}
-use Rattle.rules.specs.Calls.{Rule, rule, firstBroken}
+use Rattle.rules.specs.Calls.{Rule, rule, first_broken}
 use Rattle.rules.specs.Phases.{masked, counted, step_count, closure_of, turns}
 
 -- ==== what is written
@@ -57,7 +57,7 @@ close_rules ws counts closures steps bytes =
 
 -- its number, 0 where accepted
 unfoldable pub close_number : List ℕ → List ℤ → ℕ → ℕ → ℕ → ℕ
-close_number ws counts closures steps bytes = firstBroken (close_rules ws counts closures steps bytes) 0
+close_number ws counts closures steps bytes = first_broken (close_rules ws counts closures steps bytes) 0
 
 -- whether it is accepted for these lists
 unfoldable pub accepted_for : List ℕ → List ℤ → List ℤ → List Float → List ℕ → Bool

@@ -1,7 +1,7 @@
 -- Document 02, "A plain engine beside it": is (e, j) incident to (d, i), worked out from the cells' vertex sets, with their own numbering of entities. Behind 10 and 11 it goes by no relation but D→0, and by no count but D, N_0 and N_D.
 use Rattle.std.specs.Prelude.{Bool, false, cond, not, ◌||◌, List, [], ◌∷◌, ℕ, eqb, ltb, leb}
 use Rattle.rules.specs.Book.{dim, count, key, rows_of, frame_right, rows_right}
-use Rattle.rules.specs.Calls.{Rule, rule, firstBroken}
+use Rattle.rules.specs.Calls.{Rule, rule, first_broken}
 use Rattle.rules.specs.Truth.{Mesh, number, incident}
 
 -- the mesh of the book's cells: D and N_0 from word 0, the cells from D→0
@@ -20,7 +20,7 @@ plain_rules ws d e i j =
 
 -- Plain's number, 0 where accepted
 unfoldable pub plain_number : List ℕ → ℕ → ℕ → ℕ → ℕ → ℕ
-plain_number ws d e i j = firstBroken (plain_rules ws d e i j) 0
+plain_number ws d e i j = first_broken (plain_rules ws d e i j) 0
 
 -- whether (e, j) is incident to (d, i), no on a refusal
 unfoldable pub plain_yes : List ℕ → ℕ → ℕ → ℕ → ℕ → Bool

@@ -2,7 +2,7 @@
 use Rattle.std.specs.Prelude.{Bool, cond, not, List, [], ◌∷◌, ◌++◌, map, ℕ, zero, suc, ◌+◌, ◌-◌, ◌*◌, ◌^◌, ◌≤◌, ◌<◌, length, eqb, ltb}
 use Rattle.rules.specs.Lists.{up_to, any_of, keep, same, joined, sorted}
 use Rattle.rules.specs.File.{bit_at, file_dim, file_vertices, file_cells, file_spare, file_cell, bits_of, length_of, out_of, twice, file_bytes}
-use Rattle.rules.specs.Calls.{Rule, rule, firstBroken, at_front}
+use Rattle.rules.specs.Calls.{Rule, rule, first_broken, at_front}
 
 -- ==== the head
 -- a file that refusals 1 to 4 let pass
@@ -24,7 +24,7 @@ equal_to c cs = any_of (λ b. same (sorted b) (sorted c)) cs
 -- the first fault of cell c, 0 for none: 6 not whole in the file, 7 a vertex out of range, 8 a vertex twice, 23 equal to one of the cells kept before it
 unfoldable pub cell_fault : List ℕ → List (List ℕ) → ℕ → ℕ
 cell_fault f before c =
-    firstBroken (
+    first_broken (
     rule (cut_off f c) 6
     ∷ rule (out_of (file_vertices f) (file_cell f c)) 7
     ∷ rule (twice (file_cell f c)) 8
@@ -104,7 +104,7 @@ salvage_rules f bytes list =
 
 -- the number, 0 where accepted
 unfoldable pub salvage_number : List ℕ → List ℕ → List ℕ → ℕ
-salvage_number f bytes list = firstBroken (salvage_rules f bytes list) 0
+salvage_number f bytes list = first_broken (salvage_rules f bytes list) 0
 
 -- what it gives where accepted: the length written, the number of cells dropped, and 1 or 0 for each of the three things that may have been wrong besides; nothing on a refusal
 unfoldable pub salvage_given : List ℕ → List ℕ → List ℕ → List ℕ

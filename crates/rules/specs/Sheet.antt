@@ -3,7 +3,7 @@ use Rattle.std.specs.Prelude.{◌≡◌, Bool, true, false, cond, not, ◌&&◌,
 use Rattle.rules.specs.Lists.{up_to, any_of, all_of, keep, first_at, has, joined}
 use Rattle.rules.specs.File.{file_bytes}
 use Rattle.rules.specs.Book.{dim, count, key, held, row_of, frame_right, rows_right}
-use Rattle.rules.specs.Calls.{Rule, firstBroken, used_vertices, at_front}
+use Rattle.rules.specs.Calls.{Rule, first_broken, used_vertices, at_front}
 use Rattle.rules.specs.Truth.{Mesh, first_word}
 
 -- ==== what the book stores
@@ -116,7 +116,7 @@ sheet_rules ws acrosses bytes vertices edges =
 
 -- its answer: the number with what it carries, 0 alone where accepted
 unfoldable pub sheet_answer : List ℕ → ℕ → ℕ → ℕ → ℕ → List ℕ
-sheet_answer ws acrosses bytes vertices edges = firstBroken (sheet_rules ws acrosses bytes vertices edges) (0 ∷ [])
+sheet_answer ws acrosses bytes vertices edges = first_broken (sheet_rules ws acrosses bytes vertices edges) (0 ∷ [])
 
 -- its number
 unfoldable pub sheet_number : List ℕ → ℕ → ℕ → ℕ → ℕ → ℕ

@@ -10,7 +10,7 @@ use lib.Dec.{eqb, ltb}
 use borrow.Author.Tests.{le-ltb, ne_eqb}
 use Rattle.rules.specs.Lists.{any_of, repeats, sorted}
 use Rattle.rules.specs.File.{file_dim, file_vertices, file_cells, file_spare, length_of, cells_in_file, out_of, twice, pad_set, head_dim, head_cells, head_length}
-use Rattle.rules.specs.Calls.{firstBroken, file_rules, file_number, at_front}
+use Rattle.rules.specs.Calls.{first_broken, file_rules, file_number, at_front}
 use Rattle.rules.specs.Salvage.{Headed, kept, dropped_pairs, dropped_count, saved_head, saved, saved_length, spare_was, pad_was, length_was, salvage_rules, salvage_number, salvage_given, salvage_bytes, salvage_list}
 use Rattle.rules.proofs.Fields.{dim-below}
 use Rattle.rules.proofs.FirstFault.{short, no-dimension, many-vertices, many-cells}
@@ -36,7 +36,7 @@ rest-other false false false false false false k l m e = omega arith
 module _ (f bytes list : List ℕ) where
   -- the head's four refusals are Load's
   pub head-refused : (k : ℕ) → 0 < k → k < 5 → file_number f ≡ k → salvage_number f bytes list ≡ k
-  unfolding file_number file_rules salvage_number salvage_rules firstBroken
+  unfolding file_number file_rules salvage_number salvage_rules first_broken
   head-refused k l m e = go (ltb (length f) 4) (eqb (file_dim f) 0) (ltb 8192 (file_vertices f)) (ltb 4096 (file_cells f)) _ _ (rest-other (ltb 0 (file_spare f)) (not (eqb (length f) (length_of (file_dim f) (file_cells f)))) (any_of (out_of (file_vertices f)) (cells_in_file f)) (any_of twice (cells_in_file f)) (repeats (map sorted (cells_in_file f))) (pad_set f) k l m) e
     where
       go : (a b c d : Bool) (x y : ℕ) → (x ≡ k → ⊥) → cond a 1 (cond b 2 (cond c 3 (cond d 4 x))) ≡ k → cond a 1 (cond b 2 (cond c 3 (cond d 4 y))) ≡ k
@@ -48,7 +48,7 @@ module _ (f bytes list : List ℕ) where
 
   -- behind them come 18 and 21
   pub past_head : Headed f → salvage_number f bytes list ≡ cond (ltb (length bytes) (saved_length f)) 18 (cond (ltb (length list) (2 * file_cells f)) 21 0)
-  unfolding salvage_number salvage_rules firstBroken
+  unfolding salvage_number salvage_rules first_broken
   past_head a = rw (le-ltb (length f) 4 a.long, ne_eqb (file_dim f) 0 (λ z. omega (arith, a.low)), le-ltb 8192 (file_vertices f) a.vertices, le-ltb 4096 (file_cells f) a.cells)
 
   -- ---- what a call leaves

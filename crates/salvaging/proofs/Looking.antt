@@ -13,7 +13,7 @@ use lib.Dec.{leb}
 use borrow.Author.Tests.{ne_eqb}
 use Rattle.rules.specs.Lists.{up_to, any_of, same, sorted}
 use Rattle.rules.specs.File.{file_dim, file_vertices, file_cell, out_of, twice}
-use Rattle.rules.specs.Calls.{firstBroken}
+use Rattle.rules.specs.Calls.{first_broken}
 use Rattle.rules.specs.Salvage.{cut_off, equal_to, cell_fault, kept_of, why}
 use Rattle.rules.proofs.Tests.{agree, same-is, same_refl}
 use Rattle.rules.proofs.Sorted.{length-sorted, any-sorted, twice-sorted}
@@ -29,18 +29,18 @@ use Rattle.salvaging.specs.Looked.{row_fault, four_of, Looked}
 -- ---- why a cell is dropped
 -- the order of its vertices does not matter to what is wrong with them by themselves
 pub fault-sorted : (n : ℕ) (vs : List ℕ) → row_fault n (sorted vs) ≡ row_fault n vs
-unfolding row_fault out_of firstBroken
+unfolding row_fault out_of first_broken
 fault-sorted n vs = rw (any-sorted (λ v. leb n v) vs, twice-sorted vs)
 
 module _ (f : List ℕ) (c : ℕ) where
   -- a cell that is cut off
   pub why-cut : cut_off f c ≡ true → why f c ≡ 6
-  unfolding why cell_fault firstBroken
+  unfolding why cell_fault first_broken
   why-cut h = rw h
 
   -- of a whole cell, what is wrong with its vertices by themselves goes before a look at others
   pub why-own : cut_off f c ≡ false → (row_fault (file_vertices f) (file_cell f c) ≡ 0 → ⊥) → why f c ≡ row_fault (file_vertices f) (file_cell f c)
-  unfolding why cell_fault row_fault firstBroken
+  unfolding why cell_fault row_fault first_broken
   why-own w h = rw w (go (out_of (file_vertices f) (file_cell f c)) (twice (file_cell f c)) h)
     where
       go : (y z : Bool) → (◌≡◌ {A = ℕ} (cond y 7 (cond z 8 0)) 0 → ⊥) → ◌≡◌ {A = ℕ} (cond y 7 (cond z 8 (cond (equal_to (file_cell f c) (kept_of f c)) 23 0))) (cond y 7 (cond z 8 0))
@@ -49,7 +49,7 @@ module _ (f : List ℕ) (c : ℕ) where
       go false false n = absurd (n refl)
 
   pub why-rest : cut_off f c ≡ false → row_fault (file_vertices f) (file_cell f c) ≡ 0 → why f c ≡ cond (equal_to (file_cell f c) (kept_of f c)) 23 0
-  unfolding why cell_fault row_fault firstBroken
+  unfolding why cell_fault row_fault first_broken
   why-rest w h = rw w (go (out_of (file_vertices f) (file_cell f c)) (twice (file_cell f c)) h)
     where
       go : (y z : Bool) → ◌≡◌ {A = ℕ} (cond y 7 (cond z 8 0)) 0 → ◌≡◌ {A = ℕ} (cond y 7 (cond z 8 (cond (equal_to (file_cell f c) (kept_of f c)) 23 0))) (cond (equal_to (file_cell f c) (kept_of f c)) 23 0)

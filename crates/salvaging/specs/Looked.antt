@@ -2,14 +2,14 @@
 use Rattle.std.specs.Prelude.{◌≡◌, List, [], ◌∷◌, ◌++◌, map, ℕ, ◌-◌, ◌≤◌, length, replicate}
 use Rattle.rules.specs.Lists.{sorted}
 use Rattle.rules.specs.File.{file_dim, out_of, twice}
-use Rattle.rules.specs.Calls.{rule, firstBroken}
+use Rattle.rules.specs.Calls.{rule, first_broken}
 use Rattle.rules.specs.Salvage.{kept_of}
 use Rattle.repeats.specs.Rows.{rows_in, bucket_at}
 use Rattle.rules.specs.Chains.{Chains}
 
 -- what is wrong with a cell's vertices by themselves, where there are n vertices: 7 or 8, 0 for nothing
 unfoldable pub row_fault : ℕ → List ℕ → ℕ
-row_fault n vs = firstBroken (rule (out_of n vs) 7 ∷ rule (twice vs) 8 ∷ []) 0
+row_fault n vs = first_broken (rule (out_of n vs) 7 ∷ rule (twice vs) 8 ∷ []) 0
 
 -- the four words of a cell: its vertices ascending, then zeros
 unfoldable pub four_of : ℕ → List ℕ → List ℕ

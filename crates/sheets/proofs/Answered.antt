@@ -12,33 +12,33 @@ use borrow.Author.Tests.{eq-eqb, ne_eqb, lt-ltb, le-ltb}
 use Rattle.rules.specs.Lists.{up_to, any_of}
 use Rattle.rules.specs.Book.{dim, count, key, held, frame_right, rows_right}
 use Rattle.rules.specs.Broken.{broken_at, told}
-use Rattle.rules.specs.Calls.{firstBroken, at_front}
+use Rattle.rules.specs.Calls.{first_broken, at_front}
 use Rattle.rules.specs.Sheet.{unused, branched, unmatched, across, rim_edges_of, rim_vertices_of, rim_file, rim_length_of, carried, Flat, Sheet, sheet_rules, sheet_answer, sheet_number, sheet_given, sheet_for, sheet_across, sheet_bytes, sheet_vertices, sheet_edges}
 use Rattle.sheets.specs.Answers.{by_entities}
 
 -- ---- the answer, by the lengths of the lent lists
 module _ (ws : List ℕ) (a b v e : ℕ) where
   pub ten : frame_right ws ≡ false → 10 ∷ [] ≡ sheet_answer ws a b v e
-  unfolding sheet_answer sheet_rules firstBroken
+  unfolding sheet_answer sheet_rules first_broken
   ten f = rw f
 
   pub eleven : frame_right ws ≡ true → rows_right ws ≡ false → 11 ∷ [] ≡ sheet_answer ws a b v e
-  unfolding sheet_answer sheet_rules firstBroken
+  unfolding sheet_answer sheet_rules first_broken
   eleven f r = rw (f, r)
 
   module _ (f : frame_right ws ≡ true) (r : rows_right ws ≡ true) where
     pub other-dimension : (dim ws ≡ 2 → ⊥) → 28 ∷ 1 ∷ [] ≡ sheet_answer ws a b v e
-    unfolding sheet_answer sheet_rules firstBroken
+    unfolding sheet_answer sheet_rules first_broken
     other-dimension n = rw (f, r, ne_eqb (dim ws) 2 n)
 
     pub fifteen : dim ws ≡ 2 → (held ws (key 1 0) && held ws (key 2 1) && held ws (key 1 2)) ≡ false → 15 ∷ [] ≡ sheet_answer ws a b v e
-    unfolding sheet_answer sheet_rules firstBroken
+    unfolding sheet_answer sheet_rules first_broken
     fifteen d h = rw (f, r, eq-eqb (dim ws) 2 d, h)
 
   -- the refusals that the entities decide
   module _ (f : Flat ws) where
     pub by-entities : (w : List ℕ) → w ≡ by_entities ws → (w ≡ 0 ∷ [] → ⊥) → w ≡ sheet_answer ws a b v e
-    unfolding sheet_answer sheet_rules firstBroken by_entities
+    unfolding sheet_answer sheet_rules first_broken by_entities
     by-entities w h n =
         rw (f.frame, f.rows, eq-eqb (dim ws) 2 f.two, f.ends, f.edges, f.cells)
         (go _ _ _ _ (any_of (unused ws) (up_to (count ws 0))) (any_of (branched ws) (up_to (count ws 1))) (any_of (unmatched ws) (up_to (count ws 2))) h)
@@ -52,51 +52,51 @@ module _ (ws : List ℕ) (a b v e : ℕ) where
   -- a sheet: the rules that are left
   module _ (s : Sheet ws) where
     left_over : sheet_answer ws a b v e
-        ≡ firstBroken
+        ≡ first_broken
         (carried (ltb 4096 (length (rim_edges_of ws))) (29 ∷ [])
         ∷ carried (ltb b (rim_length_of ws)) (18 ∷ [])
         ∷ carried (not (eqb a (3 * count ws 2)) || ltb v (length (rim_vertices_of ws)) || ltb e (length (rim_edges_of ws))) (21 ∷ [])
         ∷ [])
         (0 ∷ [])
-    unfolding sheet_answer sheet_rules firstBroken
+    unfolding sheet_answer sheet_rules first_broken
     left_over =
         let f = s.flat in
         rw (f.frame, f.rows, eq-eqb (dim ws) 2 f.two, f.ends, f.edges, f.cells, s.used, s.plain, s.matched)
 
     pub twenty-nine : 4096 < length (rim_edges_of ws) → 29 ∷ [] ≡ sheet_answer ws a b v e
-    unfolding firstBroken
+    unfolding first_broken
     twenty-nine l = rw (left_over, lt-ltb 4096 (length (rim_edges_of ws)) l)
 
     module _ (few : length (rim_edges_of ws) ≤ 4096) where
       pub eighteen : b < rim_length_of ws → 18 ∷ [] ≡ sheet_answer ws a b v e
-      unfolding firstBroken
+      unfolding first_broken
       eighteen l = rw (left_over, le-ltb 4096 (length (rim_edges_of ws)) few, lt-ltb b (rim_length_of ws) l)
 
       module _ (room : rim_length_of ws ≤ b) where
         pub across-off : (a ≡ 3 * count ws 2 → ⊥) → 21 ∷ [] ≡ sheet_answer ws a b v e
-        unfolding firstBroken
+        unfolding first_broken
         across-off n = rw (left_over, le-ltb 4096 (length (rim_edges_of ws)) few, le-ltb b (rim_length_of ws) room, ne_eqb a (3 * count ws 2) n)
 
         module _ (places : a ≡ 3 * count ws 2) where
           pub vertices-short : v < length (rim_vertices_of ws) → 21 ∷ [] ≡ sheet_answer ws a b v e
-          unfolding firstBroken
+          unfolding first_broken
           vertices-short l =
               rw (left_over, le-ltb 4096 (length (rim_edges_of ws)) few, le-ltb b (rim_length_of ws) room, eq-eqb a (3 * count ws 2) places, lt-ltb v (length (rim_vertices_of ws)) l)
 
           module _ (vertices : length (rim_vertices_of ws) ≤ v) where
             pub edges-short : e < length (rim_edges_of ws) → 21 ∷ [] ≡ sheet_answer ws a b v e
-            unfolding firstBroken
+            unfolding first_broken
             edges-short l =
                 rw (left_over, le-ltb 4096 (length (rim_edges_of ws)) few, le-ltb b (rim_length_of ws) room, eq-eqb a (3 * count ws 2) places, le-ltb v (length (rim_vertices_of ws)) vertices, lt-ltb e (length (rim_edges_of ws)) l)
 
             pub accepted : length (rim_edges_of ws) ≤ e → 0 ∷ [] ≡ sheet_answer ws a b v e
-            unfolding firstBroken
+            unfolding first_broken
             accepted edges =
                 rw (left_over, le-ltb 4096 (length (rim_edges_of ws)) few, le-ltb b (rim_length_of ws) room, eq-eqb a (3 * count ws 2) places, le-ltb v (length (rim_vertices_of ws)) vertices, le-ltb e (length (rim_edges_of ws)) edges)
 
 -- where the entities show no reason against it, the book is a sheet
 pub is-sheet : (ws : List ℕ) → Flat ws → 0 ∷ [] ≡ by_entities ws → Sheet ws
-unfolding firstBroken by_entities
+unfolding first_broken by_entities
 is-sheet ws f h = go _ _ _ (any_of (unused ws) (up_to (count ws 0))) (any_of (branched ws) (up_to (count ws 1))) (any_of (unmatched ws) (up_to (count ws 2))) refl refl refl h
   where
     zero-is-not : (xs : List ℕ) → 0 ∷ [] ≡ 28 ∷ xs → ⊥

@@ -10,7 +10,7 @@ use lib.Dec.{eqb}
 use borrow.Author.Tests.{eqb-true, eq-eqb, ne_eqb, not-false, lt-ltb, le-ltb}
 use Rattle.rules.specs.Lists.{up_to, any_of, all_of, keep, first_at, has}
 use Rattle.rules.specs.Book.{count, key, row_of}
-use Rattle.rules.specs.Calls.{Rule, firstBroken}
+use Rattle.rules.specs.Calls.{Rule, first_broken}
 use Rattle.rules.specs.Sheet.{edges_of, cells_at, branched, unmatched, not_sheet}
 use Rattle.rules.proofs.Tests.{or_cases, eqb_comm, get_or-in, has_of}
 use Rattle.rules.proofs.Numbered.{length-up_to, three-members}
@@ -90,16 +90,16 @@ matched-is ws c e =
 
 -- ---- the lowest of the entities that do not pass
 -- there is one
-pub found-off : (why n : ℕ) (off : ℕ → Bool) (rs : List (Rule (List ℕ))) (a : List ℕ) → first_at off (up_to n) < n → 28 ∷ why ∷ first_at off (up_to n) ∷ [] ≡ firstBroken (not_sheet why off n ∷ rs) a
-unfolding firstBroken
+pub found-off : (why n : ℕ) (off : ℕ → Bool) (rs : List (Rule (List ℕ))) (a : List ℕ) → first_at off (up_to n) < n → 28 ∷ why ∷ first_at off (up_to n) ∷ [] ≡ first_broken (not_sheet why off n ∷ rs) a
+unfolding first_broken
 found-off why n off rs a l = let h : any_of off (up_to n) ≡ true = any-first off (up_to n) ∙ rw length-up_to (lt-ltb _ _ l) in rw h
 
 -- there is none
 pub none-off : (n : ℕ) (off : ℕ → Bool) → (first_at off (up_to n) < n → ⊥) → any_of off (up_to n) ≡ false
 none-off n off l = let g : n ≤ first_at off (up_to n) = omega arith in any-first off (up_to n) ∙ rw length-up_to (le-ltb _ _ g)
 
-pub passed-off : (why n : ℕ) (off : ℕ → Bool) (rs : List (Rule (List ℕ))) (a : List ℕ) → any_of off (up_to n) ≡ false → firstBroken rs a ≡ firstBroken (not_sheet why off n ∷ rs) a
-unfolding firstBroken
+pub passed-off : (why n : ℕ) (off : ℕ → Bool) (rs : List (Rule (List ℕ))) (a : List ℕ) → any_of off (up_to n) ≡ false → first_broken rs a ≡ first_broken (not_sheet why off n ∷ rs) a
+unfolding first_broken
 passed-off why n off rs a h = rw h
 
 -- ---- three numbers

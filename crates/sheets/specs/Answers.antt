@@ -2,7 +2,7 @@
 use Rattle.std.specs.Prelude.{List, [], ◌∷◌, ℕ}
 use Rattle.std.proofs.Math.Option.{Option, none}
 use Rattle.rules.specs.Book.{count}
-use Rattle.rules.specs.Calls.{firstBroken}
+use Rattle.rules.specs.Calls.{first_broken}
 use Rattle.rules.specs.Sheet.{unused, branched, unmatched, not_sheet}
 use Rattle.rows.specs.Answers.{placed}
 use Rattle.sheets.specs.declared.answers.NotSheet.{NotSheet}
@@ -22,7 +22,7 @@ why_answer (whys.Cell c) = 28 ∷ 4 ∷ c ∷ []
 -- the refusals that the entities of a right book with D = 2 decide, 0 alone where it is a sheet
 unfoldable pub by_entities : List ℕ → List ℕ
 by_entities ws =
-    firstBroken (not_sheet 2 (unused ws) (count ws 0) ∷ not_sheet 3 (branched ws) (count ws 1) ∷ not_sheet 4 (unmatched ws) (count ws 2) ∷ []) (0 ∷ [])
+    first_broken (not_sheet 2 (unused ws) (count ws 0) ∷ not_sheet 3 (branched ws) (count ws 1) ∷ not_sheet 4 (unmatched ws) (count ws 2) ∷ []) (0 ∷ [])
 
 -- what the entities show: 0 for a sheet, or why it is not one
 unfoldable pub tested_answer : Tested → List ℕ

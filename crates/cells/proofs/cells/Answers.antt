@@ -36,46 +36,18 @@ key-k-requires c = (rw c.dim-top.ensures (framed c.args.book.now c.requires.0).h
 
 pub overflow_add-first : goal.overflow_add-first
 overflow_add-first c =
-    let key-is : c.key-k.result ≡ key (dim (c.args.book.now)) 0 =
-    c.key-k.ensures ∙ ap (λ (d : ℕ). key d 0) c.dim-top.ensures in
-    let place_is : c.place_of.result.0 ≡ place (c.args.book.now) (key (dim (c.args.book.now)) 0) =
-    c.place_of.ensures ∙ ap (place (c.args.book.now)) (key-is) in
-    let count-is : c.count.result ≡ count (c.args.book.now) (dim (c.args.book.now)) =
-    c.count.ensures ∙ ap (count (c.args.book.now)) c.dim-top.ensures in
     omega (arith, offsets-inside c, c.well_formed)
 
 pub overflow_add-first-2 : goal.overflow_add-first-2
 overflow_add-first-2 c =
-    let key-is : c.key-k.result ≡ key (dim (c.args.book.now)) 0 =
-    c.key-k.ensures ∙ ap (λ (d : ℕ). key d 0) c.dim-top.ensures in
-    let place_is : c.place_of.result.0 ≡ place (c.args.book.now) (key (dim (c.args.book.now)) 0) =
-    c.place_of.ensures ∙ ap (place (c.args.book.now)) (key-is) in
-    let count-is : c.count.result ≡ count (c.args.book.now) (dim (c.args.book.now)) =
-    c.count.ensures ∙ ap (count (c.args.book.now)) c.dim-top.ensures in
     omega (arith, offsets-inside c, c.well_formed)
 
 pub overflow_add-end : goal.overflow_add-end
 overflow_add-end c =
-    let key-is : c.key-k.result ≡ key (dim (c.args.book.now)) 0 =
-    c.key-k.ensures ∙ ap (λ (d : ℕ). key d 0) c.dim-top.ensures in
-    let place_is : c.place_of.result.0 ≡ place (c.args.book.now) (key (dim (c.args.book.now)) 0) =
-    c.place_of.ensures ∙ ap (place (c.args.book.now)) (key-is) in
-    let count-is : c.count.result ≡ count (c.args.book.now) (dim (c.args.book.now)) =
-    c.count.ensures ∙ ap (count (c.args.book.now)) c.dim-top.ensures in
-    let total-is : c.total.result ≡ total (c.args.book.now) (key (dim (c.args.book.now)) 0) =
-    c.total.ensures ∙ ap (total (c.args.book.now)) (key-is) in
     omega (arith, inside c, c.well_formed)
 
 pub offset_bounds-book-first : goal.offset_bounds-book-first
 offset_bounds-book-first c =
-    let key-is : c.key-k.result ≡ key (dim (c.args.book.now)) 0 =
-    c.key-k.ensures ∙ ap (λ (d : ℕ). key d 0) c.dim-top.ensures in
-    let place_is : c.place_of.result.0 ≡ place (c.args.book.now) (key (dim (c.args.book.now)) 0) =
-    c.place_of.ensures ∙ ap (place (c.args.book.now)) (key-is) in
-    let count-is : c.count.result ≡ count (c.args.book.now) (dim (c.args.book.now)) =
-    c.count.ensures ∙ ap (count (c.args.book.now)) c.dim-top.ensures in
-    let total-is : c.total.result ≡ total (c.args.book.now) (key (dim (c.args.book.now)) 0) =
-    c.total.ensures ∙ ap (total (c.args.book.now)) (key-is) in
     omega (arith, inside c, c.well_formed)
 
 pub returns : goal.returns
@@ -96,4 +68,4 @@ returns c =
     rw (place_is, count-is, total-is, z) (sym (cells_are ws s.requires.0 s.requires.1))
 
 pub slice_bounds-result-end : goal.slice_bounds-result-end
-slice_bounds-result-end c = omega (arith, inside c, c.well_formed)
+slice_bounds-result-end c = omega (arith, inside c)

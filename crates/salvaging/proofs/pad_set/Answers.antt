@@ -30,26 +30,14 @@ overflow_mul-width c = omega (arith, short c)
 
 pub overflow_sub-width : goal.overflow_sub-width
 overflow_sub-width c =
-    let end_is : c.end_bit-end.result ≡ bits_of (file_dim c.args.file.now) (file_cells c.args.file.now) =
-    let f = c.args.file.now in c.end_bit-end.ensures ∙ rw (c.requires, head-dim f, head-cells f) in
-    let length-is : c.length.result ≡ length_of (file_dim c.args.file.now) (file_cells c.args.file.now) =
-    let f = c.args.file.now in c.length.ensures ∙ rw (c.requires, head-length f) in
     (few c).0
 
 pub overflow_cast-width : goal.overflow_cast-width
 overflow_cast-width c =
-    let end_is : c.end_bit-end.result ≡ bits_of (file_dim c.args.file.now) (file_cells c.args.file.now) =
-    let f = c.args.file.now in c.end_bit-end.ensures ∙ rw (c.requires, head-dim f, head-cells f) in
-    let length-is : c.length.result ≡ length_of (file_dim c.args.file.now) (file_cells c.args.file.now) =
-    let f = c.args.file.now in c.length.ensures ∙ rw (c.requires, head-length f) in
     omega (arith, (few c).1)
 
 pub read_field-requires : goal.read_field-requires
 read_field-requires c =
-    let end_is : c.end_bit-end.result ≡ bits_of (file_dim c.args.file.now) (file_cells c.args.file.now) =
-    let f = c.args.file.now in c.end_bit-end.ensures ∙ rw (c.requires, head-dim f, head-cells f) in
-    let length-is : c.length.result ≡ length_of (file_dim c.args.file.now) (file_cells c.args.file.now) =
-    let f = c.args.file.now in c.length.ensures ∙ rw (c.requires, head-length f) in
     omega (arith, (few c).1)
 
 pub returns : goal.returns

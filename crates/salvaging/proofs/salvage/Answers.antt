@@ -3,9 +3,9 @@ use mathlib.Core.Path.{◌≡◌, refl, sym, ap, ◌∙◌}
 use mathlib.Core.Logic.{◌⊎◌, inl, inr}
 use Prim.Native.Nat.{ℕ, zero, suc, ◌<◌}
 use native.Mathlib.Omega.{arith}
-use denote.Enum.Declared.{tag_of}
 use Rattle.rules.specs.Calls.{file_number}
-use Rattle.dayfile.specs.contracts.kinds.Fault.{the_type}
+use Rattle.dayfile.specs.declared.kinds.Fault.{Fault}
+use Rattle.dayfile.specs.declared.kinds.Fault.TheVariants as faults
 use Rattle.dayfile.specs.Faults.{fault_number, first_faults, fault_of, head_number}
 use Rattle.dayfile.proofs.HeadFaults.{head-back}
 use Rattle.salvaging.specs.declared.answers.Salvaged.TheVariants as answers
@@ -13,31 +13,20 @@ use Rattle.salvaging.specs.Answers.{salvaged_number, salvaged_given}
 use Rattle.salvaging.proofs.Answered.{head-refused, head-own, headed, refused}
 use Rattle.salvaging.proofs.salvage.Goals as goal
 
--- the cases of a fault that are none of the head's four
-none_of_four : (x : ℕ) → (x ≡ 0) ⊎ ((x ≡ 5) ⊎ ((x ≡ 6) ⊎ ((x ≡ 7) ⊎ ((x ≡ 8) ⊎ ((x ≡ 9) ⊎ (x ≡ 10)))))) → (k : ℕ) → 0 < k → k < 5 → x ≡ k → ⊥
-none_of_four x (inl p) k l m e = omega arith
-none_of_four x (inr (inl p)) k l m e = omega arith
-none_of_four x (inr (inr (inl p))) k l m e = omega arith
-none_of_four x (inr (inr (inr (inl p)))) k l m e = omega arith
-none_of_four x (inr (inr (inr (inr (inl p))))) k l m e = omega arith
-none_of_four x (inr (inr (inr (inr (inr (inl p)))))) k l m e = omega arith
-none_of_four x (inr (inr (inr (inr (inr (inr p)))))) k l m e = omega arith
-
--- the case of each of them is its number
-case-of : (k : ℕ) → 0 < k → k < 5 → tag_of the_type (fault_of k 0) ≡ k
+-- a fault with one of the head's four numbers is one of its four cases
+one_of_four : (x : Fault) (k : ℕ) → 0 < k → k < 5 → x ≡ fault_of k 0 → (x ≡ faults.Short → ⊥) → (x ≡ faults.NoDimension → ⊥) → (x ≡ faults.ManyVertices → ⊥) → (x ≡ faults.ManyCells → ⊥) → ⊥
 unfolding fault_of first_faults
-case-of zero l m = absurd (omega arith)
-case-of (suc zero) l m = refl
-case-of (suc (suc zero)) l m = refl
-case-of (suc (suc (suc zero))) l m = refl
-case-of (suc (suc (suc (suc zero)))) l m = refl
-case-of (suc (suc (suc (suc (suc k))))) l m = absurd (omega arith)
+one_of_four x zero l m e short dimension vertices cells = absurd (omega arith)
+one_of_four x (suc zero) l m e short dimension vertices cells = short e
+one_of_four x (suc (suc zero)) l m e short dimension vertices cells = dimension e
+one_of_four x (suc (suc (suc zero))) l m e short dimension vertices cells = vertices e
+one_of_four x (suc (suc (suc (suc zero)))) l m e short dimension vertices cells = cells e
+one_of_four x (suc (suc (suc (suc (suc k))))) l m e short dimension vertices cells = absurd (omega arith)
 
 pub save-requires : goal.save-requires
 save-requires c =
-    let m = c in
-    let f = c.args.file.now in
-    headed f (λ k l h e. none_of_four _ m.in_default.keys5 k l h (rw (m.head_fault.ensures, e) (case-of k l h)))
+    let none = c.in_default in
+    headed c.args.file.now (λ k l h e. one_of_four c.head_fault.result k l h (c.head_fault.ensures ∙ ap (λ (n : ℕ). fault_of n 0) e) none.not-Short none.not-NoDimension none.not-ManyVertices none.not-ManyCells)
 
 pub returns-in-Short : goal.returns-in-Short
 unfolding salvaged_number salvaged_given fault_number

@@ -8,7 +8,7 @@ use native.Mathlib.Omega.{arith}
 use lib.Dec.{ltb}
 use lib.ListN.{length, take, drop}
 use lib.Seq.{length-take-le}
-use borrow.Author.Tests.{ltb-false, le-ltb}
+use borrow.Author.Tests.{lt-ltb, ltb-false, le-ltb}
 use Rattle.rules.specs.Lists.{joined}
 use Rattle.rules.specs.File.{field, file_dim, file_cells, file_spare, length_of, head_dim, head_cells, head_spare, head_length}
 use Rattle.rules.specs.Salvage.{kept, dropped_pairs, dropped_count, saved_head, saved, saved_length, spare_was, length_was}
@@ -48,7 +48,7 @@ returns-then-buffer_short c =
     c.length-length.ensures ∙ ap head_length (saved-is) ∙ saved-head-length c.args.file.now c.requires in
     let s = c in
     let a = s.args in
-    let e : ltb (length a.out.now) (saved_length a.file.now) ≡ true = ap (ltb (length a.out.now)) (sym (length-is)) ∙ c.if-buffer_short.true in let all = refused a.file.now a.out.now a.dropped.now answers.BufferTooShort 18 refl refl (λ z. omega arith) (past_head a.file.now a.out.now a.dropped.now s.requires ∙ rw e) in record { number = all.0; given = all.1.0; bytes = all.1.1.0; list = all.1.1.1; }
+    let e : ltb (length a.out.now) (saved_length a.file.now) ≡ true = ap (ltb (length a.out.now)) (sym (length-is)) ∙ lt-ltb _ _ c.if-buffer_short.true in let all = refused a.file.now a.out.now a.dropped.now answers.BufferTooShort 18 refl refl (λ z. omega arith) (past_head a.file.now a.out.now a.dropped.now s.requires ∙ rw e) in record { number = all.0; given = all.1.0; bytes = all.1.1.0; list = all.1.1.1; }
 
 -- the bytes written, and the list
 written_is : (c : goal.After-length) → c.write.new.bytes ≡ saved c.args.file.now ++ drop (saved_length c.args.file.now) c.args.out.now
@@ -62,13 +62,13 @@ written_is c =
     let length-is : c.length-length.result ≡ saved_length c.args.file.now =
     c.length-length.ensures ∙ ap head_length (saved-is) ∙ saved-head-length c.args.file.now c.requires in
     let room : saved_length c.args.file.now ≤ length c.args.out.now =
-    ltb-false _ _ (ap (ltb (length c.args.out.now)) (sym (length-is)) ∙ c.if-buffer_short.false) in
+    ltb-false _ _ (ap (ltb (length c.args.out.now)) (sym (length-is)) ∙ le-ltb _ _ c.if-buffer_short.false) in
     let dimension-is : c.dimension.result ≡ file_dim c.args.file.now =
     c.dimension.ensures ∙ ap head_dim (head-is) ∙ head-dim c.args.file.now in
     let s = c in
     let f = s.args.file.now in
     let k = c.keep_cells-k in
-    let front : take ((c.dimension.result + 1) * k.result) k.new.1.1.0 ≡ joined (kept f) = rw (dimension-is) k.ensures.vertices in
+    let front : take ((c.dimension.result + 1) * k.result) k.new.vertices ≡ joined (kept f) = rw (dimension-is) k.ensures.vertices in
     c.write.ensures.1 ∙ rw (saved-is, front) (saved-put f s.requires s.args.out.now (room))
 
 listed-is : (c : goal.After-length) → c.list_dropped.new.list ≡ dropped_pairs c.args.file.now ++ drop (length (dropped_pairs c.args.file.now)) c.args.dropped.now
@@ -107,10 +107,10 @@ returns-then-list_short c =
     let length-is : c.length-length.result ≡ saved_length c.args.file.now =
     c.length-length.ensures ∙ ap head_length (saved-is) ∙ saved-head-length c.args.file.now c.requires in
     let room : saved_length c.args.file.now ≤ length c.args.out.now =
-    ltb-false _ _ (ap (ltb (length c.args.out.now)) (sym (length-is)) ∙ c.if-buffer_short.false) in
+    ltb-false _ _ (ap (ltb (length c.args.out.now)) (sym (length-is)) ∙ le-ltb _ _ c.if-buffer_short.false) in
     let s = c in
     let a = s.args in
-    let e : ltb (length a.dropped.now) (2 * file_cells a.file.now) ≡ true = ap (λ (n : ℕ). ltb (length a.dropped.now) (2 * n)) (sym (count-is)) ∙ c.if-list_short.true in let all = refused a.file.now a.out.now a.dropped.now answers.ListLength 21 refl refl (λ z. omega arith)
+    let e : ltb (length a.dropped.now) (2 * file_cells a.file.now) ≡ true = ap (λ (n : ℕ). ltb (length a.dropped.now) (2 * n)) (sym (count-is)) ∙ lt-ltb _ _ c.if-list_short.true in let all = refused a.file.now a.out.now a.dropped.now answers.ListLength 21 refl refl (λ z. omega arith)
     (past_head a.file.now a.out.now a.dropped.now s.requires ∙ rw (le-ltb (length a.out.now) (saved_length a.file.now) (room), e)) in record { number = all.0; given = all.1.0; bytes = all.1.1.0; list = all.1.1.1; }
 
 pub overflow_mul-vertices : goal.overflow_mul-vertices
@@ -160,7 +160,7 @@ list_dropped-requires c =
     let count-is : c.cells-count.result ≡ file_cells c.args.file.now =
     c.cells-count.ensures ∙ ap head_cells (head-is) ∙ head-cells c.args.file.now in
     let places : 2 * file_cells c.args.file.now ≤ length c.args.dropped.now =
-    ltb-false _ _ (ap (λ (n : ℕ). ltb (length c.args.dropped.now) (2 * n)) (sym (count-is)) ∙ c.if-list_short.false) in
+    ltb-false _ _ (ap (λ (n : ℕ). ltb (length c.args.dropped.now) (2 * n)) (sym (count-is)) ∙ le-ltb _ _ c.if-list_short.false) in
     let s = c in
     let n = count-is in record { fact_1 = omega (arith, n, s.requires.cells); fact_2 = c.keep_cells-k.ensures.lengths.1; fact_3 = rw n (places); }
 
@@ -185,11 +185,9 @@ returns c =
     let length-is : c.length-length.result ≡ saved_length c.args.file.now =
     c.length-length.ensures ∙ ap head_length (saved-is) ∙ saved-head-length c.args.file.now c.requires in
     let room : saved_length c.args.file.now ≤ length c.args.out.now =
-    ltb-false _ _ (ap (ltb (length c.args.out.now)) (sym (length-is)) ∙ c.if-buffer_short.false) in
+    ltb-false _ _ (ap (ltb (length c.args.out.now)) (sym (length-is)) ∙ le-ltb _ _ c.if-buffer_short.false) in
     let places : 2 * file_cells c.args.file.now ≤ length c.args.dropped.now =
-    ltb-false _ _ (ap (λ (n : ℕ). ltb (length c.args.dropped.now) (2 * n)) (sym (count-is)) ∙ c.if-list_short.false) in
-    let dimension-is : c.dimension.result ≡ file_dim c.args.file.now =
-    c.dimension.ensures ∙ ap head_dim (head-is) ∙ head-dim c.args.file.now in
+    ltb-false _ _ (ap (λ (n : ℕ). ltb (length c.args.dropped.now) (2 * n)) (sym (count-is)) ∙ le-ltb _ _ c.if-list_short.false) in
     let s = c in
     let a = s.args in
     let f = a.file.now in

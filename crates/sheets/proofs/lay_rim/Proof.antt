@@ -18,7 +18,7 @@ use Rattle.rules.proofs.Rim.{rim-up, few-vertices}
 use Rattle.rules.proofs.SheetAccepted.{across-length}
 use Rattle.sheets.specs.Answers.{sheeted_answer, sheeted_place, sheeted_given}
 use Rattle.sheets.proofs.Looked.{triple}
-use Rattle.sheets.proofs.Gathered.{allEnds, edges-low, ends_low, vertices-low, ends-listed, named-are, head-is, length-is, file-is}
+use Rattle.sheets.proofs.Gathered.{all_ends, edges-low, ends_low, vertices-low, ends-listed, named-are, head-is, length-is, file-is}
 use Rattle.sheets.proofs.Answered.{eighteen, across-off, vertices-short, edges-short, accepted, refused, no_place, given}
 use Rattle.sheets.proofs.lay_rim.Statement.{statement}
 use Rattle.sheets.proofs.lay_rim.Tie as tie
@@ -53,7 +53,7 @@ array-share-prefix-ends : tie.Need-array-share-prefix-ends
 array-share-prefix-ends c = search rules
 
 -- the ends that were put
-ends-are : (c : tie.After-put-ends) → let s = c.before.before.before.before.before.before.before.before.before in take (2 * length s.args.edges.now) c.put-ends.new.1.1.1.0 ≡ allEnds (ws s) (flat s)
+ends-are : (c : tie.After-put-ends) → let s = c.before.before.before.before.before.before.before.before.before in take (2 * length s.args.edges.now) c.put-ends.new.1.1.1.0 ≡ all_ends (ws s) (flat s)
 ends-are c = let s = c.before.before.before.before.before.before.before.before.before in c.put-ends.ensures.0 ∙ ap (λ (ks : List ℕ). joined (map (ends_at (ws s)) ks)) s.requires.1.0
 
 ends-many : (c : tie.After-put-ends) → let s = c.before.before.before.before.before.before.before.before.before in 2 * length s.args.edges.now ≡ length (take (2 * length s.args.edges.now) c.put-ends.new.1.1.1.0)
@@ -217,7 +217,7 @@ same-length-4 : tie.Need-same-length-4
 same-length-4 c = search rules
 
 -- the file that is written
-file-at : (ws bs : List ℕ) (f : Flat ws) → length (rim_edges_of ws) ≤ 4096 → rim_length_of ws ≤ length bs → (h : ℕ) (vs es : List ℕ) → h ≡ first_word (rim_mesh ws) → vs ≡ rim_vertices_of ws → es ≡ allEnds ws f
+file-at : (ws bs : List ℕ) (f : Flat ws) → length (rim_edges_of ws) ≤ 4096 → rim_length_of ws ≤ length bs → (h : ℕ) (vs es : List ℕ) → h ≡ first_word (rim_mesh ws) → vs ≡ rim_vertices_of ws → es ≡ all_ends ws f
     → put_file h (map (λ v. first_at (eqb v) vs) es) bs ≡ rim_file ws ++ drop (rim_length_of ws) bs
 file-at ws bs f few l h vs es e p q = rw (e, p, q) (file-is ws f few bs l)
 

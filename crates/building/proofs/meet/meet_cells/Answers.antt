@@ -39,9 +39,6 @@ candidates-requires c = c.requires.fact_2
 
 pub meet_cell-n-requires : goal.meet_cell-n-requires
 meet_cell-n-requires c =
-    let candidates-are : take (most c.args.top c.args.d) c.candidates.result ≡ map (padded c.args.d) (choose (c.args.d + 1) (row_at c.args.book.now c.args.at.0 c.args.cells c.loop-c.c)) =
-    let e = row-cell c.requires.fact_3 c.loop-c.c c.loop-c-test.true c.requires.fact_2.most _ c.start_of.ensures _ c.corners-cell.ensures in
-    rw e at c.candidates.ensures.result_value in
     let h = c.loop-c.invariant in
     let s = c in
     let m = c.choices-many.ensures in record { fact_1 = h.chained; fact_2 = omega (arith, h.few, c.loop-c-test.true, s.requires.fact_3.few); fact_3 = omega (arith, m, most-few s.args.top s.args.d); fact_4 = rw m (candidates-good c); }

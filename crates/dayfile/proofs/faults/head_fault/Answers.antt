@@ -143,8 +143,6 @@ returns c =
     c.spare-spare_bits.ensures ∙ ap head_spare (head-is) ∙ head-spare (c.args.file.now) in
     let no-spare : file_spare (c.args.file.now) ≤ 0 =
     rw (spare-is) at c.if-spare_bits-gt0.false in
-    let length-is : c.length.result ≡ length_of (file_dim (c.args.file.now)) (file_cells (c.args.file.now)) =
-    let s = c in c.length.ensures ∙ ap head_length (head-is) ∙ head-length (c.args.file.now) in
     let s = c in
     rw (head-none (c.args.file.now) (record {
       long = long;

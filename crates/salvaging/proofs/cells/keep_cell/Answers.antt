@@ -43,10 +43,6 @@ row_is c =
 
 pub look-why-requires : goal.look-why-requires
 look-why-requires c =
-    let dimension-is : c.dimension-dim.result ≡ file_dim c.args.file.now =
-    c.dimension-dim.ensures ∙ ap head_dim c.requires.fact_1 ∙ head-dim c.args.file.now in
-    let front : take (file_dim c.args.file.now + 1) (numbers c.in_file-v.result) ≡ file_cell c.args.file.now c.args.c =
-    rw c.in_file-v.ensures (cell-front c.args.file.now c.args.c _) in
     let s = c in record { fact_1 = s.requires.fact_1; fact_2 = s.requires.fact_2; fact_3 = (s.requires.fact_3, sym c.is_cut.ensures ∙ c.if-is_cut.false); fact_4 = row_is c; fact_5 = s.requires.fact_5; }
 
 pub put_kept-requires : goal.put_kept-requires

@@ -31,7 +31,10 @@ returns-then-fault-ne0 c =
     let s = c in
     let e = fault-is in
     let q : row_fault (file_vertices s.args.file.now) (file_cell s.args.file.now s.args.c) ≡ 0 → ⊥ = λ z. c.if-fault-ne0.true (e ∙ z) in
-    let w = why-own s.args.file.now s.args.c s.requires.fact_3.1 q in let all = rw (ne_eqb c.row_fault-fault.result 0 c.if-fault-ne0.true) (e ∙ sym w, looked-same s.requires.fact_5 (λ z. q (sym w ∙ z))) in record { why = all.0; rows = all.1; }
+    let w = why-own s.args.file.now s.args.c s.requires.fact_3.1 q in record {
+      why = e ∙ sym w;
+      rows = rw (ne_eqb c.row_fault-fault.result 0 c.if-fault-ne0.true) (looked-same s.requires.fact_5 (λ z. q (sym w ∙ z)));
+    }
 
 pub meet-requires : goal.meet-requires
 meet-requires c =

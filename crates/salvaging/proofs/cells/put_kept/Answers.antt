@@ -18,7 +18,10 @@ room : (n k : ℕ) → n ≤ 4 → k < 4096 → n * k + n ≤ 16384
 room n k l m = omega (arith, mul-le-mul {n₁ = n} {m₁ = k + 1} {n₂ = 4} {m₂ = 4096} l (omega arith), mul-suc n k, add-one k)
 
 pub returns-then-why-ne0 : goal.returns-then-why-ne0
-returns-then-why-ne0 c = let all = rw (ne_eqb c.args.why 0 c.if-why-ne0.true) (sym (append-nil _), c.requires.fact_3) in record { vertices = all.0; length = all.1; }
+returns-then-why-ne0 c = record {
+      vertices = rw (ne_eqb c.args.why 0 c.if-why-ne0.true) (sym (append-nil _));
+      length = c.requires.fact_3;
+    }
 
 pub overflow_mul-at : goal.overflow_mul-at
 overflow_mul-at c = let s = c in omega (arith, room s.args.n s.args.k s.requires.fact_1 s.requires.fact_2)
@@ -80,4 +83,7 @@ returns c =
     let j : t.j ≡ n = omega (arith, t.invariant.0, c.loop-j-test.false) in
     let e : t.vertices ≡ paste s.args.vertices.now (n * k) (numbers v) n = rw j at t.invariant.1 in
     let m : n * (k + 1) ≡ n * k + n = omega (arith, mul-suc n k, add-one k) in
-    let zero : s.args.why ≡ 0 = c.if-why-ne0.false in let all = rw (zero, e, m) (take-paste s.args.vertices.now (n * k) (numbers v) n (omega arith) (omega (arith, s.requires.fact_1)), length-paste s.args.vertices.now (n * k) (numbers v) n (omega arith) (omega (arith, s.requires.fact_1)) ∙ long) in record { vertices = all.0; length = all.1; }
+    let zero : s.args.why ≡ 0 = c.if-why-ne0.false in record {
+      vertices = rw (zero, e, m) (take-paste s.args.vertices.now (n * k) (numbers v) n (omega arith) (omega (arith, s.requires.fact_1)));
+      length = rw e (length-paste s.args.vertices.now (n * k) (numbers v) n (omega arith) (omega (arith, s.requires.fact_1)) ∙ long);
+    }

@@ -7,7 +7,7 @@ use native.Mathlib.Omega.{arith}
 use borrow.Author.Rules.{rules}
 use Rattle.rules.specs.Lists.{up_to, any_of}
 use Rattle.rules.specs.Book.{count, key}
-use Rattle.rules.specs.Calls.{firstBroken}
+use Rattle.rules.specs.Calls.{first_broken}
 use Rattle.rules.specs.Sheet.{unused, branched, unmatched}
 use Rattle.sheets.specs.Answers.{by_entities, why_answer, tested_answer}
 use Rattle.sheets.proofs.Looked.{found-off, none-off, passed-off}
@@ -86,7 +86,7 @@ returns-3 c =
     ∙ passed-off 2 (count ws 0) (unused ws) _ _ (used e.before.before)
 
 returns-4 : tie.Need-returns-4
-unfolding tested_answer by_entities firstBroken
+unfolding tested_answer by_entities first_broken
 returns-4 c =
     let m = c.before.before in
     let e = m.before.before in
