@@ -21,8 +21,7 @@ fn put(bounds: Bounds, ends: &mut [f64; 6])
 }
 
 // The box of the entity (d, i): where accepted, its ends are written.
-#[unsafe(no_mangle)]
-pub extern "C" fn daybook_box(
+pub fn daybook_box(
     book: &[u32],
     coordinates: &[f64],
     axes: u32,
@@ -58,8 +57,7 @@ pub extern "C" fn daybook_box(
 }
 
 // The box of the whole mesh: where accepted, 1 is written and its ends, or 0 for no box.
-#[unsafe(no_mangle)]
-pub extern "C" fn daybook_whole_box(
+pub fn daybook_whole_box(
     book: &[u32],
     coordinates: &[f64],
     axes: u32,

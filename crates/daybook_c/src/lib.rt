@@ -23,8 +23,7 @@ pub use sheeted::daybook_sheet;
 pub use worked::daybook_plain;
 
 // Loads a day file; with 7, 8 and 23 the cell is written.
-#[unsafe(no_mangle)]
-pub extern "C" fn daybook_load(file: &[u8], book: &mut [u32], cell: &mut u32) -> u32
+pub fn daybook_load(file: &[u8], book: &mut [u32], cell: &mut u32) -> u32
     ensures number { result ≡ load_number file.now book.old }
     ensures cell { cell.new ≡ cond (eqb result 7 || eqb result 8 || eqb result 23) (fault_cell file.now) cell.old }
     ensures words { book.new ≡ load_words file.now book.old }
@@ -55,14 +54,7 @@ pub extern "C" fn daybook_load(file: &[u8], book: &mut [u32], cell: &mut u32) ->
 }
 
 // Makes d→e from what the book stores.
-#[unsafe(no_mangle)]
-pub extern "C" fn daybook_make(
-    book: &mut [u32],
-    d: u32,
-    e: u32,
-    key: &mut u32,
-    position: &mut usize,
-) -> u32
+pub fn daybook_make(book: &mut [u32], d: u32, e: u32, key: &mut u32, position: &mut usize) -> u32
     ensures number { result ≡ make_number book.old d e }
     ensures key { key.new ≡ cond (eqb result 11) (broken_key book.old) key.old }
     ensures position { position.new ≡ cond (eqb result 11) (broken_place book.old) position.old }
@@ -85,14 +77,7 @@ pub extern "C" fn daybook_make(
 }
 
 // Makes d→e and, as far as missing, everything it is made from, or nothing at all.
-#[unsafe(no_mangle)]
-pub extern "C" fn daybook_ask(
-    book: &mut [u32],
-    d: u32,
-    e: u32,
-    key: &mut u32,
-    position: &mut usize,
-) -> u32
+pub fn daybook_ask(book: &mut [u32], d: u32, e: u32, key: &mut u32, position: &mut usize) -> u32
     ensures number { result ≡ ask_number book.old d e }
     ensures key { key.new ≡ cond (eqb result 11) (broken_key book.old) key.old }
     ensures position { position.new ≡ cond (eqb result 11) (broken_place book.old) position.old }
@@ -113,8 +98,7 @@ pub extern "C" fn daybook_ask(
 }
 
 // Asks for each d, e pair in turn and writes each ask's number in its place; a refused ask does not stop the next.
-#[unsafe(no_mangle)]
-pub extern "C" fn daybook_ask_list(book: &mut [u32], pairs: &[u32], answers: &mut [u32]) -> u32
+pub fn daybook_ask_list(book: &mut [u32], pairs: &[u32], answers: &mut [u32]) -> u32
     ensures number { result ≡ list_number pairs.now answers.old }
     ensures answers { answers.new ≡ list_answers book.old pairs.now answers.old }
     ensures words { book.new ≡ list_words book.old pairs.now answers.old }
@@ -126,14 +110,7 @@ pub extern "C" fn daybook_ask_list(book: &mut [u32], pairs: &[u32], answers: &mu
 }
 
 // Takes d→e out of the book and gives back its room; with 11 the key and the position are written.
-#[unsafe(no_mangle)]
-pub extern "C" fn daybook_drop(
-    book: &mut [u32],
-    d: u32,
-    e: u32,
-    key: &mut u32,
-    position: &mut usize,
-) -> u32
+pub fn daybook_drop(book: &mut [u32], d: u32, e: u32, key: &mut u32, position: &mut usize) -> u32
     ensures number { result ≡ drop_number book.old d e }
     ensures key { key.new ≡ cond (eqb result 11) (broken_key book.old) key.old }
     ensures position { position.new ≡ cond (eqb result 11) (broken_place book.old) position.old }
@@ -164,8 +141,7 @@ fn place_of_row(book: &[u32], k: u32, i: u32) -> Place
 }
 
 // Row i of d→e: where accepted, its first word's place and how many words it has are written.
-#[unsafe(no_mangle)]
-pub extern "C" fn daybook_row(
+pub fn daybook_row(
     book: &[u32],
     d: u32,
     e: u32,
@@ -202,8 +178,7 @@ pub extern "C" fn daybook_row(
 }
 
 // Whether j is in row i of d→e: where accepted, 1 or 0 and how many indices were read are written.
-#[unsafe(no_mangle)]
-pub extern "C" fn daybook_find(
+pub fn daybook_find(
     book: &[u32],
     d: u32,
     e: u32,
@@ -243,8 +218,7 @@ pub extern "C" fn daybook_find(
 }
 
 // Writes the book's file; where accepted, its length is written.
-#[unsafe(no_mangle)]
-pub extern "C" fn daybook_write(
+pub fn daybook_write(
     book: &[u32],
     bytes: &mut [u8],
     length: &mut usize,
@@ -273,13 +247,7 @@ pub extern "C" fn daybook_write(
 }
 
 // The Euler number, written where accepted.
-#[unsafe(no_mangle)]
-pub extern "C" fn daybook_euler(
-    book: &[u32],
-    number: &mut i64,
-    key: &mut u32,
-    position: &mut usize,
-) -> u32
+pub fn daybook_euler(book: &[u32], number: &mut i64, key: &mut u32, position: &mut usize) -> u32
     ensures number { result ≡ euler_number book.now }
     ensures key { key.new ≡ cond (eqb result 11) (broken_key book.now) key.old }
     ensures position { position.new ≡ cond (eqb result 11) (broken_place book.now) position.old }
@@ -301,8 +269,7 @@ pub extern "C" fn daybook_euler(
 }
 
 // The number of relations held, written where accepted.
-#[unsafe(no_mangle)]
-pub extern "C" fn daybook_held_count(book: &[u32], count: &mut u32) -> u32
+pub fn daybook_held_count(book: &[u32], count: &mut u32) -> u32
     ensures number { result ≡ held_number book.now }
     ensures count { count.new ≡ cond (eqb result 0) (held_count book.now) count.old }
 {
@@ -316,8 +283,7 @@ pub extern "C" fn daybook_held_count(book: &[u32], count: &mut u32) -> u32
 }
 
 // Phase closures: where accepted, the closure of every face, the step of every edge in turns, and 1 for each edge that is masked are written.
-#[unsafe(no_mangle)]
-pub extern "C" fn daybook_closures(
+pub fn daybook_closures(
     book: &[u32],
     counts: &[i32],
     closures: &mut [i32],

@@ -5,8 +5,7 @@ ghost use Rattle.rules.specs.Salvage.{saved_length, dropped_count, spare_was, pa
 use daybook::Salvaged;
 
 // Saves what can be saved of a file; where accepted, the file written, the cells dropped, the length, how many were dropped, and 1 or 0 for spare bits, pad bits and a wrong length are written.
-#[unsafe(no_mangle)]
-pub extern "C" fn daybook_salvage(
+pub fn daybook_salvage(
     file: &[u8],
     out: &mut [u8],
     dropped: &mut [u32],

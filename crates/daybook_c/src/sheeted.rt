@@ -31,8 +31,7 @@ fn put_why(off: NotSheet, why: &mut u32, which: &mut u32)
 }
 
 // For a sheet, the cells across, the rim's file and the maps back to the old vertices and edges are written, with the file's length and how many vertices and edges it has; with 28 why it is not a sheet, and which vertex, edge or cell shows it; with 11 the key and the position.
-#[unsafe(no_mangle)]
-pub extern "C" fn daybook_sheet(
+pub fn daybook_sheet(
     book: &[u32],
     across: &mut [u32],
     rim: &mut [u8],

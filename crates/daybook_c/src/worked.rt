@@ -6,8 +6,7 @@ ghost use Rattle.rules.specs.Plain.{plain_number, plain_yes};
 use daybook::WorkedOut;
 
 // Whether (e, j) is incident to (d, i), from the cells' vertex sets alone: where accepted, 1 or 0 is written; with 11 the key and the position.
-#[unsafe(no_mangle)]
-pub extern "C" fn daybook_plain(
+pub fn daybook_plain(
     book: &[u32],
     d: u32,
     e: u32,

@@ -2,19 +2,46 @@
 // A read that fails is told on standard error, and nothing is written.
 #![tactic(auto)]
 
-ghost use Rattle.std.specs.Prelude.{◌*◌, ◌≤◌, length};
+ghost use Rattle.std.specs.Prelude.{◌*◌, ◌≤◌, IfOk, length};
 
-use libc::{STDERR_FILENO, STDIN_FILENO, STDOUT_FILENO};
+use std::fmt;
+use std::io::{self, Read, Write};
 use telling::Outcome;
 
-// Whether the input has ended: one more read gives nothing, and does not fail.
-fn has_ended() -> bool {
-    let mut more = [0u8; 1];
-    libc::read(STDIN_FILENO, &mut more) == 0
+// A stream that failed, and how.
+#[derive(Drop)]
+enum Failure {
+    Input(io::Error),
+    Output(io::Error),
+}
+
+// What is told on standard error.
+impl fmt::Debug for Failure {
+    fn fmt<W: fmt::Write>(&self, f: &mut fmt::Formatter<W>) -> fmt::Result {
+        match self {
+            Failure::Input(error) => write!(f, "standard input: {error}"),
+            Failure::Output(error) => write!(f, "standard output: {error}"),
+        }
+    }
+}
+
+// Reads until the input has ended or the bytes are full. Gives how many bytes were read.
+fn read_full(input: &mut impl Read, bytes: &mut [u8]) -> io::Result<usize>
+    ensures { IfOk result (λ n. n ≤ length bytes.new) }
+{
+    let mut size: usize = 0;
+    while size < bytes.len() {
+        let n = input.read(&mut bytes[size..])?;
+        if n == 0 {
+            break;
+        }
+        size += n;
+    }
+    Ok(size)
 }
 
 // Writes the words for people: a line for each run of dropped cells, and the last words.
-fn tell(dropped: &[u32], outcome: Outcome)
+fn tell(people: &mut impl Write, dropped: &[u32], outcome: Outcome)
     requires { 2 * outcome.dropped ≤ length dropped.now }
 {
     let mut line = [0u8; 79];
@@ -26,29 +53,23 @@ fn tell(dropped: &[u32], outcome: Outcome)
         let start = 2 * i;
         let run = telling::tell_run(&dropped[start..end], &mut line);
         let length = run.length;
-        io::write_all(STDERR_FILENO, &line[..length]);
+        let _ = people.write_all(&line[..length]);
         i += run.cells;
     }
     let length = telling::last_words(outcome, &mut words);
-    io::write_all(STDERR_FILENO, &words[..length]);
+    let _ = people.write_all(&words[..length]);
 }
 
-fn main() {
+fn main(rt: HostRuntime) -> Result<(), Failure> {
     let mut file = [0u8; 26628];
     let mut out = [0u8; 26628];
     let mut dropped = [0u32; 8192];
-    let size = io::read_full(STDIN_FILENO, &mut file);
-    if size < 26628 {
-        if !has_ended() {
-            os::fail(b"standard input");
-            return;
-        }
-    }
+    let size = read_full(&mut rt.stdin(), &mut file).map_err(Failure::Input)?;
     let outcome = telling::answer(&file[..size], &mut out, &mut dropped);
     let length = outcome.length as usize;
-    if !io::write_all(STDOUT_FILENO, &out[..length]) {
-        os::fail(b"standard output");
-        return;
-    }
-    tell(&dropped, outcome);
+    rt.stdout()
+        .write_all(&out[..length])
+        .map_err(Failure::Output)?;
+    tell(&mut rt.stderr(), &dropped, outcome);
+    Ok(())
 }

@@ -1,18 +1,18 @@
 -- The furthest of finite values, below or above: it is one of them, none lies beyond it, and of equal ones it is the first.
-use mathlib.Core.Path.{◌≡◌, refl, sym, ap, ◌∙◌}
+use mathlib.Core.Path.{◌≡◌, refl, sym, ◌∙◌}
 use mathlib.Core.Logic.{◌⊎◌, inl, inr}
-use mathlib.Core.Bool.{Bool, true, false, cond, ◌&&◌, true≢false}
+use mathlib.Core.Bool.{Bool, true, false, cond, true≢false}
 use mathlib.Core.List.Memᴰ.{head as here}
 use mathlib.Core.List.Memᴰ.{tail as there}
 use mathlib.Core.List.{List, [], ◌∷◌, Memᴰ as In}
 use Prim.Native.Nat.{ℕ, zero, suc, ◌<◌}
 use native.Mathlib.Omega.{arith}
 use lib.ListN.{length, get_or}
-use lib.Ieee.{Float, lt, le}
+use lib.Ieee.{Float, lt}
 use lib.Ieee.Scale.{finite}
 use Rattle.rules.specs.Lists.{all_of}
 use Rattle.rules.proofs.Tests.{cases, left, right}
-use Rattle.floats.proofs.Ordered.{not-below, le-not-below, below-le, not-below-itself, not-below-trans}
+use Rattle.floats.proofs.Ordered.{le-not-below, below-le, not-below-itself, not-below-trans}
 use Rattle.rules.specs.Boxes.{greater, replaced, furthest}
 
 -- ==== what either direction has: nothing is beyond itself, what is beyond is not behind, and not being beyond goes on

@@ -1,18 +1,18 @@
 -- The order of finite floats: one is at most another exactly when the other is not below it, and not being below goes on from one to the next. `finite` is `lib.Ieee.Scale`'s: neither a NaN nor an infinity.
-use mathlib.Core.Path.{◌≡◌, refl, sym, ap, ap₂, ◌∙◌, subst}
-use mathlib.Core.Logic.{◌⊎◌, inl, inr}
-use mathlib.Core.Bool.{Bool, true, false, not, cond, ◌&&◌, ◌||◌, beq, false≢true}
-use Prim.Native.Nat.{ℕ, zero, suc, ◌+◌, ◌*◌, ◌-◌, ◌<◌, ◌≤◌}
-use native.Mathlib.Nat.{mul_assoc, mul_comm, mul_left_comm, mul_right_comm, mul-pos, sub_self, add-zero, zero-add, add_comm}
+use mathlib.Core.Path.{◌≡◌, refl, sym, ap, ◌∙◌}
+use mathlib.Core.Logic.{inl, inr}
+use mathlib.Core.Bool.{Bool, true, false, not, ◌&&◌, ◌||◌, false≢true}
+use Prim.Native.Nat.{ℕ, ◌+◌, ◌*◌, ◌<◌}
+use native.Mathlib.Nat.{mul_assoc, mul_comm, mul_left_comm, mul-pos, sub_self, add-zero, zero-add, add_comm}
 use native.Mathlib.Omega.{arith}
-use lib.Dec.{T, ltb, eqb, lit<}
-use borrow.Author.Tests.{ltb-true, ltb-false, lt-ltb, le-ltb, eqb-true, eq-eqb, ne_eqb, not-true}
-use lib.IntN.{ℤ, pos, negsuc}
-use lib.Ieee.{Float, nan, inf, fin, Format, binary64, round, sum, neg, add, sub, lt, le, eq, below, level, up, down}
+use lib.Dec.{ltb, eqb, lit<}
+use borrow.Author.Tests.{ltb-false, lt-ltb, le-ltb, eqb-true, eq-eqb, ne_eqb, not-true}
+use lib.IntN.{pos}
+use lib.Ieee.{Float, nan, inf, fin, binary64, round, sum, sub, lt, le, eq, below, level, up, down}
 use lib.Ieee.Fits.{down_pos}
 use lib.Ieee.Exact.{HasValue}
 use lib.Ieee.Scale.{finite, round_same}
-use Rattle.rules.proofs.Tests.{agree, cases, left, right, and-of}
+use Rattle.rules.proofs.Tests.{agree, left, right, and-of}
 use Rattle.rules.proofs.Compared.{order}
 use Rattle.floats.proofs.Fractions.{lt-values}
 

@@ -1,4 +1,3 @@
 #![tactic(auto)]
 
 // Laws of 64-bit floats: no code.
-

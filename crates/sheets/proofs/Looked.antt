@@ -7,12 +7,12 @@ use Prim.Native.Nat.{ℕ, ◌-◌, ◌/◌, ◌≤◌, ◌<◌}
 use native.Mathlib.Omega.{arith}
 use lib.ListN.{length, get_or}
 use lib.Dec.{eqb}
-use borrow.Author.Tests.{eqb-true, eq-eqb, ne_eqb, not-false, lt-ltb, le-ltb}
+use borrow.Author.Tests.{eq-eqb, ne_eqb, lt-ltb, le-ltb}
 use Rattle.rules.specs.Lists.{up_to, any_of, all_of, keep, first_at, has}
 use Rattle.rules.specs.Book.{count, key, row_of}
 use Rattle.rules.specs.Calls.{Rule, first_broken}
-use Rattle.rules.specs.Sheet.{edges_of, cells_at, branched, unmatched, not_sheet}
-use Rattle.rules.proofs.Tests.{or_cases, eqb_comm, get_or-in, has_of}
+use Rattle.rules.specs.Sheet.{edges_of, cells_at, unmatched, not_sheet}
+use Rattle.rules.proofs.Tests.{eqb_comm, get_or-in, has_of}
 use Rattle.rules.proofs.Numbered.{length-up_to, three-members}
 use Rattle.rules.proofs.Searched.{any-first}
 use Rattle.sheets.specs.declared.stands.Stand.{Stand}

@@ -18,7 +18,7 @@ use Rattle.boxing.proofs.box_of.Goals as goal
 pub returns-then-not-frame_right : goal.returns-then-not-frame_right
 unfolding boxed_number boxed_place boxed_ends box_given
 returns-then-not-frame_right c =
-    let a = c.args in let all = bare a.book.now (entity_box a.book.now a.coordinates.now a.axes a.d a.i) 10 refl refl (box-10 a.book.now a.coordinates.now a.axes a.d a.i (off c.frame_right.ensures c.if-not-frame_right.true)) in record { number = all.0; place = all.1.0; ends = all.1.1; }
+    let a = c.args in let all = bare a.book.now (entity_box a.book.now a.coordinates.now a.axes a.d a.i) 10 refl refl (box-10 a.book.now a.coordinates.now a.axes a.d a.i (off c.frame_right.ensures c.if-not-frame_right.true)) in record { number = all.0; place = all.1.0; ends = all.1.1 }
 
 pub broken_at-requires : goal.broken_at-requires
 broken_at-requires c =
@@ -33,7 +33,7 @@ returns-in-BrokenAt c =
     on c.frame_right.ensures c.if-not-frame_right.false in
     let b = c in
     let a = b.args in
-    let e = sym (ap rows_place c.in-BrokenAt.is) ∙ b.broken_at.ensures in let all = found a.book.now (entity_box a.book.now a.coordinates.now a.axes a.d a.i) _ e (box-11 a.book.now a.coordinates.now a.axes a.d a.i (frames) (some-wrong a.book.now (frames) _ (sym e))) in record { number = all.0; place = all.1.0; ends = all.1.1; }
+    let e = sym (ap rows_place c.in-BrokenAt.is) ∙ b.broken_at.ensures in let all = found a.book.now (entity_box a.book.now a.coordinates.now a.axes a.d a.i) _ e (box-11 a.book.now a.coordinates.now a.axes a.d a.i (frames) (some-wrong a.book.now (frames) _ (sym e))) in record { number = all.0; place = all.1.0; ends = all.1.1 }
 
 pub returns-then-d-dim : goal.returns-then-d-dim
 unfolding boxed_number boxed_place boxed_ends box_given rows_place
@@ -45,7 +45,7 @@ returns-then-d-dim c =
     none_right b.args.book.now (frames) (sym b.broken_at.ensures ∙ ap rows_place c.in_default.is) in
     let r = c in
     let f = r in
-    let a = f.args in let all = bare a.book.now (entity_box a.book.now a.coordinates.now a.axes a.d a.i) 12 refl refl (box-12 a.book.now a.coordinates.now a.axes a.d a.i (frames) (rowed) (omega (arith, c.dim.ensures))) in record { number = all.0; place = all.1.0; ends = all.1.1; }
+    let a = f.args in let all = bare a.book.now (entity_box a.book.now a.coordinates.now a.axes a.d a.i) 12 refl refl (box-12 a.book.now a.coordinates.now a.axes a.d a.i (frames) (rowed) (omega (arith, c.dim.ensures))) in record { number = all.0; place = all.1.0; ends = all.1.1 }
 
 pub need_missing-requires : goal.need_missing-requires
 need_missing-requires c =
@@ -68,7 +68,7 @@ returns-then-need_missing c =
     let l = c in
     let r = l in
     let f = r in
-    let a = f.args in let all = bare a.book.now (entity_box a.book.now a.coordinates.now a.axes a.d a.i) 15 refl refl (box-15 a.book.now a.coordinates.now a.axes a.d a.i (frames) (rowed) (low) (sym c.need_missing.ensures ∙ c.if-need_missing.true)) in record { number = all.0; place = all.1.0; ends = all.1.1; }
+    let a = f.args in let all = bare a.book.now (entity_box a.book.now a.coordinates.now a.axes a.d a.i) 15 refl refl (box-15 a.book.now a.coordinates.now a.axes a.d a.i (frames) (rowed) (low) (sym c.need_missing.ensures ∙ c.if-need_missing.true)) in record { number = all.0; place = all.1.0; ends = all.1.1 }
 
 pub returns-then-i-count : goal.returns-then-i-count
 unfolding boxed_number boxed_place boxed_ends box_given rows_place
@@ -86,7 +86,7 @@ returns-then-i-count c =
     let l = h in
     let r = l in
     let f = r in
-    let a = f.args in let all = bare a.book.now (entity_box a.book.now a.coordinates.now a.axes a.d a.i) 17 refl refl (box-17 a.book.now a.coordinates.now a.axes a.d a.i (frames) (rowed) (low) (has) (omega (arith, c.count.ensures))) in record { number = all.0; place = all.1.0; ends = all.1.1; }
+    let a = f.args in let all = bare a.book.now (entity_box a.book.now a.coordinates.now a.axes a.d a.i) 17 refl refl (box-17 a.book.now a.coordinates.now a.axes a.d a.i (frames) (rowed) (low) (has) (omega (arith, c.count.ensures))) in record { number = all.0; place = all.1.0; ends = all.1.1 }
 
 pub entity_box-requires : goal.entity_box-requires
 unfolding lent_number rows_place
@@ -133,7 +133,7 @@ returns-in-AxisCount c =
     let a = f.args in
     c.lent.ensures ∙ box-rest a.book.now a.coordinates.now a.axes a.d a.i (frames) (rowed) (low) (has) (there) in
     let n = c in
-    let a = n.args in let all = bare a.book.now (entity_box a.book.now a.coordinates.now a.axes a.d a.i) 26 refl refl (sym (ap lent_number c.in-AxisCount.is) ∙ decides) in record { number = all.0; place = all.1.0; ends = all.1.1; }
+    let a = n.args in let all = bare a.book.now (entity_box a.book.now a.coordinates.now a.axes a.d a.i) 26 refl refl (sym (ap lent_number c.in-AxisCount.is) ∙ decides) in record { number = all.0; place = all.1.0; ends = all.1.1 }
 
 pub returns-in-ListLength : goal.returns-in-ListLength
 unfolding boxed_number boxed_place boxed_ends box_given lent_number rows_place
@@ -157,7 +157,7 @@ returns-in-ListLength c =
     let a = f.args in
     c.lent.ensures ∙ box-rest a.book.now a.coordinates.now a.axes a.d a.i (frames) (rowed) (low) (has) (there) in
     let n = c in
-    let a = n.args in let all = bare a.book.now (entity_box a.book.now a.coordinates.now a.axes a.d a.i) 21 refl refl (sym (ap lent_number c.in-ListLength.is) ∙ decides) in record { number = all.0; place = all.1.0; ends = all.1.1; }
+    let a = n.args in let all = bare a.book.now (entity_box a.book.now a.coordinates.now a.axes a.d a.i) 21 refl refl (sym (ap lent_number c.in-ListLength.is) ∙ decides) in record { number = all.0; place = all.1.0; ends = all.1.1 }
 
 pub returns-in-NotFinite : goal.returns-in-NotFinite
 unfolding boxed_number boxed_place boxed_ends box_given lent_number rows_place
@@ -181,7 +181,7 @@ returns-in-NotFinite c =
     let a = f.args in
     c.lent.ensures ∙ box-rest a.book.now a.coordinates.now a.axes a.d a.i (frames) (rowed) (low) (has) (there) in
     let n = c in
-    let a = n.args in let all = bare a.book.now (entity_box a.book.now a.coordinates.now a.axes a.d a.i) 27 refl refl (sym (ap lent_number c.in-NotFinite.is) ∙ decides) in record { number = all.0; place = all.1.0; ends = all.1.1; }
+    let a = n.args in let all = bare a.book.now (entity_box a.book.now a.coordinates.now a.axes a.d a.i) 27 refl refl (sym (ap lent_number c.in-NotFinite.is) ∙ decides) in record { number = all.0; place = all.1.0; ends = all.1.1 }
 
 pub returns-in-Right : goal.returns-in-Right
 unfolding boxed_number boxed_place boxed_ends box_given lent_number rows_place
@@ -205,4 +205,4 @@ returns-in-Right c =
     let a = f.args in
     c.lent.ensures ∙ box-rest a.book.now a.coordinates.now a.axes a.d a.i (frames) (rowed) (low) (has) (there) in
     let n = c in
-    let a = n.args in let all = given a.book.now (entity_box a.book.now a.coordinates.now a.axes a.d a.i) _ c.entity_box.ensures (sym (ap lent_number c.in-Right.is) ∙ decides) in record { number = all.0; place = all.1.0; ends = all.1.1; }
+    let a = n.args in let all = given a.book.now (entity_box a.book.now a.coordinates.now a.axes a.d a.i) _ c.entity_box.ensures (sym (ap lent_number c.in-Right.is) ∙ decides) in record { number = all.0; place = all.1.0; ends = all.1.1 }

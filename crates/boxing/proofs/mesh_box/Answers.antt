@@ -10,7 +10,7 @@ use Rattle.boxing.proofs.mesh_box.Goals as goal
 pub returns-then-n-eq0 : goal.returns-then-n-eq0
 unfolding whole_boxed_number whole_boxed_place whole_boxed_ends
 returns-then-n-eq0 c =
-    let a = c.args in record { number = refl; place = refl; ends = no-box a.book.now a.coordinates.now a.axes (sym c.list_used-n.ensures.many ∙ c.if-n-eq0.true); }
+    let a = c.args in record { number = refl; place = refl; ends = no-box a.book.now a.coordinates.now a.axes (sym c.list_used-n.ensures.many ∙ c.if-n-eq0.true) }
 
 pub slice_bounds-used-end : goal.slice_bounds-used-end
 slice_bounds-used-end c =
@@ -35,4 +35,4 @@ pub returns : goal.returns
 unfolding whole_boxed_number whole_boxed_place whole_boxed_ends whole_box
 returns c =
     let l = c in
-    let a = l.args in record { number = refl; place = refl; ends = c.box_over.ensures ∙ ap (box_over a.axes a.coordinates.now) l.list_used-n.ensures.these; }
+    let a = l.args in record { number = refl; place = refl; ends = c.box_over.ensures ∙ ap (box_over a.axes a.coordinates.now) l.list_used-n.ensures.these }

@@ -13,7 +13,7 @@ use Rattle.boxing.proofs.whole_box.Goals as goal
 pub returns-then-not-frame_right : goal.returns-then-not-frame_right
 unfolding whole_boxed_number whole_boxed_place whole_boxed_ends whole_given
 returns-then-not-frame_right c =
-    let a = c.args in let all = bare a.book.now (whole_box a.book.now a.coordinates.now a.axes) 10 refl refl (whole-10 a.book.now a.coordinates.now a.axes (off c.frame_right.ensures c.if-not-frame_right.true)) in record { number = all.0; place = all.1.0; ends = all.1.1; }
+    let a = c.args in let all = bare a.book.now (whole_box a.book.now a.coordinates.now a.axes) 10 refl refl (whole-10 a.book.now a.coordinates.now a.axes (off c.frame_right.ensures c.if-not-frame_right.true)) in record { number = all.0; place = all.1.0; ends = all.1.1 }
 
 pub broken_at-requires : goal.broken_at-requires
 broken_at-requires c =
@@ -28,7 +28,7 @@ returns-in-BrokenAt c =
     on c.frame_right.ensures c.if-not-frame_right.false in
     let b = c in
     let a = b.args in
-    let e = sym (ap rows_place c.in-BrokenAt.is) ∙ b.broken_at.ensures in let all = found a.book.now (whole_box a.book.now a.coordinates.now a.axes) _ e (whole-11 a.book.now a.coordinates.now a.axes (frames) (some-wrong a.book.now (frames) _ (sym e))) in record { number = all.0; place = all.1.0; ends = all.1.1; }
+    let e = sym (ap rows_place c.in-BrokenAt.is) ∙ b.broken_at.ensures in let all = found a.book.now (whole_box a.book.now a.coordinates.now a.axes) _ e (whole-11 a.book.now a.coordinates.now a.axes (frames) (some-wrong a.book.now (frames) _ (sym e))) in record { number = all.0; place = all.1.0; ends = all.1.1 }
 
 pub mesh_box-requires : goal.mesh_box-requires
 unfolding lent_number rows_place
@@ -58,7 +58,7 @@ returns-in-AxisCount c =
     let a = f.args in
     c.lent.ensures ∙ whole-rest a.book.now a.coordinates.now a.axes (frames) (rowed) in
     let n = c in
-    let a = n.args in let all = bare a.book.now (whole_box a.book.now a.coordinates.now a.axes) 26 refl refl (sym (ap lent_number c.in-AxisCount.is) ∙ decides) in record { number = all.0; place = all.1.0; ends = all.1.1; }
+    let a = n.args in let all = bare a.book.now (whole_box a.book.now a.coordinates.now a.axes) 26 refl refl (sym (ap lent_number c.in-AxisCount.is) ∙ decides) in record { number = all.0; place = all.1.0; ends = all.1.1 }
 
 pub returns-in-ListLength : goal.returns-in-ListLength
 unfolding whole_boxed_number whole_boxed_place whole_boxed_ends whole_given lent_number rows_place
@@ -74,7 +74,7 @@ returns-in-ListLength c =
     let a = f.args in
     c.lent.ensures ∙ whole-rest a.book.now a.coordinates.now a.axes (frames) (rowed) in
     let n = c in
-    let a = n.args in let all = bare a.book.now (whole_box a.book.now a.coordinates.now a.axes) 21 refl refl (sym (ap lent_number c.in-ListLength.is) ∙ decides) in record { number = all.0; place = all.1.0; ends = all.1.1; }
+    let a = n.args in let all = bare a.book.now (whole_box a.book.now a.coordinates.now a.axes) 21 refl refl (sym (ap lent_number c.in-ListLength.is) ∙ decides) in record { number = all.0; place = all.1.0; ends = all.1.1 }
 
 pub returns-in-NotFinite : goal.returns-in-NotFinite
 unfolding whole_boxed_number whole_boxed_place whole_boxed_ends whole_given lent_number rows_place
@@ -90,7 +90,7 @@ returns-in-NotFinite c =
     let a = f.args in
     c.lent.ensures ∙ whole-rest a.book.now a.coordinates.now a.axes (frames) (rowed) in
     let n = c in
-    let a = n.args in let all = bare a.book.now (whole_box a.book.now a.coordinates.now a.axes) 27 refl refl (sym (ap lent_number c.in-NotFinite.is) ∙ decides) in record { number = all.0; place = all.1.0; ends = all.1.1; }
+    let a = n.args in let all = bare a.book.now (whole_box a.book.now a.coordinates.now a.axes) 27 refl refl (sym (ap lent_number c.in-NotFinite.is) ∙ decides) in record { number = all.0; place = all.1.0; ends = all.1.1 }
 
 pub returns-in-Right : goal.returns-in-Right
 unfolding whole_boxed_number whole_boxed_place whole_boxed_ends whole_given lent_number rows_place
@@ -108,4 +108,4 @@ returns-in-Right c =
     let n = c in
     let a = n.args in
     let m = c.mesh_box.ensures in
-    let e = given a.book.now (whole_box a.book.now a.coordinates.now a.axes) _ m.ends (sym (ap lent_number c.in-Right.is) ∙ decides) in record { number = m.number ∙ e.0; place = m.place ∙ e.1.0; ends = e.1.1; }
+    let e = given a.book.now (whole_box a.book.now a.coordinates.now a.axes) _ m.ends (sym (ap lent_number c.in-Right.is) ∙ decides) in record { number = m.number ∙ e.0; place = m.place ∙ e.1.0; ends = e.1.1 }

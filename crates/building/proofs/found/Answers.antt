@@ -5,7 +5,7 @@ use Rattle.building.proofs.found.Goals as goal
 
 pub meet_cells-requires : goal.meet_cells-requires
 meet_cells-requires c =
-    let q = c.requires in record { fact_1 = chained-none; fact_2 = between q.ready q.source q.d_nonzero; fact_3 = ready-corners q.ready q.source q.d_nonzero; }
+    let q = c.requires in record { fact_1 = chained-none; fact_2 = between q.ready q.source q.d_nonzero; fact_3 = ready-corners q.ready q.source q.d_nonzero }
 
 pub returns : goal.returns
 returns c =

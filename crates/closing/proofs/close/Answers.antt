@@ -12,7 +12,7 @@ returns-then-closed_number-ne0 c =
     let start = c in
     let a = refused start.args.book.now start.args.counts.now start.args.closures.now start.args.steps.now start.args.bytes.now
     (λ e. c.if-closed_number-ne0.true (tested ∙ e)) in
-    let e = c.answer-a.ensures in record { number = e.number; place = e.place; closures = a.closures-are; steps = a.steps-are; bytes = a.bytes-are; }
+    let e = c.answer-a.ensures in record { number = e.number; place = e.place; closures = a.closures-are; steps = a.steps-are; bytes = a.bytes-are }
 
 pub fill_steps-requires : goal.fill_steps-requires
 fill_steps-requires c =
@@ -22,7 +22,7 @@ fill_steps-requires c =
     let start = c in
     passed start.args.book.now start.args.counts.now (length start.args.closures.now) (length start.args.steps.now) (length start.args.bytes.now)
     (sym (tested) ∙ c.if-closed_number-ne0.false) in
-    let p = accepts in record { fact_1 = p.edges; fact_2 = p.even; }
+    let p = accepts in record { fact_1 = p.edges; fact_2 = p.even }
 
 pub fill_closures-requires : goal.fill_closures-requires
 fill_closures-requires c =
@@ -44,4 +44,4 @@ returns c =
     let e = filled.fill_steps.ensures in
     let a = done start.args.book.now start.args.counts.now start.args.closures.now start.args.steps.now start.args.bytes.now
     (sym (tested) ∙ passing.if-closed_number-ne0.false) _ _ _ c.fill_closures.ensures e.steps e.bytes in
-    let answered = passing.answer-a.ensures in record { number = answered.number; place = answered.place; closures = a.closures-are; steps = a.steps-are; bytes = a.bytes-are; }
+    let answered = passing.answer-a.ensures in record { number = answered.number; place = answered.place; closures = a.closures-are; steps = a.steps-are; bytes = a.bytes-are }

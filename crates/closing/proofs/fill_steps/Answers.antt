@@ -37,7 +37,7 @@ write_steps-requires c =
     let start = c in
     let ws = start.args.book.now in
     let counts = start.args.counts.now in
-    let n = length start.args.steps.now in record { fact_1 = subst (λ (l : List ℕ). Rowed 2 n l counts) (sym (part_at ws 4 counts n start.requires.fact_1 refl (lit< tt) c.place_of.result.0 c.place_of.ensures)) (rowed ws 4 counts n start.requires.fact_1 refl (lit< tt)); fact_2 = start.requires.fact_2; }
+    let n = length start.args.steps.now in record { fact_1 = subst (λ (l : List ℕ). Rowed 2 n l counts) (sym (part_at ws 4 counts n start.requires.fact_1 refl (lit< tt) c.place_of.result.0 c.place_of.ensures)) (rowed ws 4 counts n start.requires.fact_1 refl (lit< tt)); fact_2 = start.requires.fact_2 }
 
 pub returns : goal.returns
 returns c =
@@ -46,4 +46,4 @@ returns c =
     let counts = start.args.counts.now in
     let n = length start.args.steps.now in
     let cut = part_at ws 4 counts n start.requires.fact_1 refl (lit< tt) c.place_of.result.0 c.place_of.ensures in
-    let e = c.write_steps.ensures in record { steps = e.steps ∙ ap (λ (l : List ℕ). map (λ i. edge_step counts (pair_at l i)) (up_to n)) cut ∙ sym (steps-part ws counts n start.requires.fact_1); bytes = e.bytes ∙ ap (λ (l : List ℕ). map (λ i. edge_byte counts (pair_at l i)) (up_to n)) cut ∙ sym (bytes-part ws counts n start.requires.fact_1); }
+    let e = c.write_steps.ensures in record { steps = e.steps ∙ ap (λ (l : List ℕ). map (λ i. edge_step counts (pair_at l i)) (up_to n)) cut ∙ sym (steps-part ws counts n start.requires.fact_1); bytes = e.bytes ∙ ap (λ (l : List ℕ). map (λ i. edge_byte counts (pair_at l i)) (up_to n)) cut ∙ sym (bytes-part ws counts n start.requires.fact_1) }

@@ -21,17 +21,17 @@ both_ways ab bc ac r e = (e, (λ i j k I J K p q s. e ∙ ap₃ ab (step_of i j)
 pub returns-in-Masked : goal.returns-in-Masked
 unfolding closure_between
 returns-in-Masked c =
-    let a = c.args in let all = both_ways a.ab a.bc a.ac (pos 2) (rw c.in-Masked.is) in record { floats = all.0; counts = all.1; }
+    let a = c.args in let all = both_ways a.ab a.bc a.ac (pos 2) (rw c.in-Masked.is) in record { floats = all.0; counts = all.1 }
 
 pub returns-in-Masked-bc : goal.returns-in-Masked-bc
 unfolding closure_between
 returns-in-Masked-bc c =
-    let a = c.args in let all = both_ways a.ab a.bc a.ac (pos 2) (rw (c.in-Turns.is, c.in-Masked-bc.is)) in record { floats = all.0; counts = all.1; }
+    let a = c.args in let all = both_ways a.ab a.bc a.ac (pos 2) (rw (c.in-Turns.is, c.in-Masked-bc.is)) in record { floats = all.0; counts = all.1 }
 
 pub returns-in-Masked-ac : goal.returns-in-Masked-ac
 unfolding closure_between
 returns-in-Masked-ac c =
-    let a = c.args in let all = both_ways a.ab a.bc a.ac (pos 2) (rw (c.in-Turns.is, c.in-Turns-bc.is, c.in-Masked-ac.is)) in record { floats = all.0; counts = all.1; }
+    let a = c.args in let all = both_ways a.ab a.bc a.ac (pos 2) (rw (c.in-Turns.is, c.in-Turns-bc.is, c.in-Masked-ac.is)) in record { floats = all.0; counts = all.1 }
 
 pub returns-in-Turns-ac : goal.returns-in-Turns-ac
 unfolding closure_between

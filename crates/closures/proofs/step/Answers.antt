@@ -18,14 +18,14 @@ both_ways lower higher r e = (e, (λ k j K J p q. e ∙ ap₂ step_between p q �
 pub returns-in-Masked : goal.returns-in-Masked
 unfolding step_between
 returns-in-Masked c =
-    let a = c.args in let all = both_ways a.lower a.higher steps.Masked (sym (ap (λ (r : Reading). step_between r a.higher) c.in-Masked.is)) in record { floats = all.0; counts = all.1; }
+    let a = c.args in let all = both_ways a.lower a.higher steps.Masked (sym (ap (λ (r : Reading). step_between r a.higher) c.in-Masked.is)) in record { floats = all.0; counts = all.1 }
 
 pub returns-in-Masked-higher : goal.returns-in-Masked-higher
 unfolding step_between
 returns-in-Masked-higher c =
-    let a = c.args in let all = both_ways a.lower a.higher steps.Masked (sym (ap₂ step_between c.in-Phase.is c.in-Masked-higher.is)) in record { floats = all.0; counts = all.1; }
+    let a = c.args in let all = both_ways a.lower a.higher steps.Masked (sym (ap₂ step_between c.in-Phase.is c.in-Masked-higher.is)) in record { floats = all.0; counts = all.1 }
 
 pub returns-in-Phase-higher : goal.returns-in-Phase-higher
 unfolding step_between
 returns-in-Phase-higher c =
-    let a = c.args in let all = both_ways a.lower a.higher (steps.Turns c.wrapped.result) (ap steps.Turns c.wrapped.ensures ∙ sym (ap₂ step_between c.in-Phase.is c.in-Phase-higher.is)) in record { floats = all.0; counts = all.1; }
+    let a = c.args in let all = both_ways a.lower a.higher (steps.Turns c.wrapped.result) (ap steps.Turns c.wrapped.ensures ∙ sym (ap₂ step_between c.in-Phase.is c.in-Phase-higher.is)) in record { floats = all.0; counts = all.1 }

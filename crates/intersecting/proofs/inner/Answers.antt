@@ -38,7 +38,7 @@ inner_row-at-requires c =
     let b = base in
     let t = c.loop-i in
     let z = row-size b t.invariant.1 in
-    let y = row-after b t.invariant.1 in record { incidence = incidence-front _ _ _ (row-front b t.invariant.1) _ _ _ _ c.requires.incidence _ (omega (arith, z, y)); rows = rows-front _ _ _ (row-front b t.invariant.1) c.requires.rows _ (omega (arith, z, y)); row = c.loop-i-test.true; fits = omega (arith, row-reach b t.invariant.1, c.requires); }
+    let y = row-after b t.invariant.1 in record { incidence = incidence-front _ _ _ (row-front b t.invariant.1) _ _ _ _ c.requires.incidence _ (omega (arith, z, y)); rows = rows-front _ _ _ (row-front b t.invariant.1) c.requires.rows _ (omega (arith, z, y)); row = c.loop-i-test.true; fits = omega (arith, row-reach b t.invariant.1, c.requires) }
 
 pub overflow_cast-offset : goal.overflow_cast-offset
 overflow_cast-offset c = omega (arith, c.requires)

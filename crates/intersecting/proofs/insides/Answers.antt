@@ -5,7 +5,7 @@ use Rattle.intersecting.proofs.insides.Goals as goal
 
 pub inner-requires : goal.inner-requires
 inner-requires c =
-    let a = c.requires.ready in let s = c.requires.stands in let t = c.requires.stands_2 in let u = c.requires.stands_3 in let (p, l) = c.requires.from_nonzero in record { incidence = ready-inner a s t u p l; rows = ready-sub a s t u p l; few = inner-few a s t u p l; fits = used-fits a; }
+    let a = c.requires.ready in let s = c.requires.stands in let t = c.requires.stands_2 in let u = c.requires.stands_3 in let (p, l) = c.requires.from_nonzero in record { incidence = ready-inner a s t u p l; rows = ready-sub a s t u p l; few = inner-few a s t u p l; fits = used-fits a }
 
 pub returns : goal.returns
 returns c =

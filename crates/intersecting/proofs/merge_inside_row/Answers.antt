@@ -19,7 +19,7 @@ loop-j-init c =
 
 pub advance-j-requires : goal.advance-j-requires
 advance-j-requires c =
-    let t = c in record { within = record { few = t.requires.sources.few; ends = turn-ends t.loop-j.invariant.0 }; long = t.loop-j.invariant.0.long; }
+    let t = c in record { within = record { few = t.requires.sources.few; ends = turn-ends t.loop-j.invariant.0 }; long = t.loop-j.invariant.0.long }
 
 pub row_lies_in-requires : goal.row_lies_in-requires
 row_lies_in-requires c =

@@ -13,7 +13,7 @@ pub append-new-requires : goal.append-new-requires
 append-new-requires c = ready _ _ _ c.requires _ c.word.ensures
 
 pub returns-then-book-end : goal.returns-then-book-end
-returns-then-book-end c = let all = stays _ _ _ c.requires _ _ _ _ c.word.ensures c.append-new.ensures c.append-new.auto.book c.if-book-end.true _ c.clear.ensures in record { fits = all.0; words = all.1; }
+returns-then-book-end c = let all = stays _ _ _ c.requires _ _ _ _ c.word.ensures c.append-new.ensures c.append-new.auto.book c.if-book-end.true _ c.clear.ensures in record { fits = all.0; words = all.1 }
 
 pub settle-requires : goal.settle-requires
 settle-requires c = cut _ _ _ c.requires _ _ _ _ c.word.ensures c.append-new.ensures c.append-new.auto.book c.if-book-end.false _ (c.place_of-at.ensures ∙ ap (place c.args.book.now) c.key-k.ensures)
@@ -32,4 +32,4 @@ set_head-requires c = (
 
 pub returns : goal.returns
 returns c = let all = grows _ _ _ c.requires _ _ _ _ c.word.ensures c.append-new.ensures c.append-new.auto.book c.if-book-end.false _ (c.place_of-at.ensures ∙ ap (place c.args.book.now) c.key-k.ensures)
-    _ _ _ (mask_is _ _ _ c.requires _ _ c.word-mask.ensures c.key-k.ensures) c.count_after-edges.ensures c.count_after-faces.ensures _ _ c.settle.ensures c.set_head.ensures in record { fits = all.0; words = all.1; }
+    _ _ _ (mask_is _ _ _ c.requires _ _ c.word-mask.ensures c.key-k.ensures) c.count_after-edges.ensures c.count_after-faces.ensures _ _ c.settle.ensures c.set_head.ensures in record { fits = all.0; words = all.1 }

@@ -27,7 +27,7 @@ pub source_of-cells-requires : goal.source_of-cells-requires
 source_of-cells-requires c = (omega (arith, (framed _ c.requires.frame).high, c.dim-top.ensures), omega arith)
 
 pub found-found-requires : goal.found-found-requires
-found-found-requires c = let all = findable _ _ c.requires (omega (arith, c.if-x-eq0.false)) (omega (arith, c.dim-top.ensures, c.if-x-top.false)) _ c.dim-top.ensures _ c.source_of-cells.ensures in record { ready = all.0; source = all.1.0; d_nonzero = all.1.1; }
+found-found-requires c = let all = findable _ _ c.requires (omega (arith, c.if-x-eq0.false)) (omega (arith, c.dim-top.ensures, c.if-x-top.false)) _ c.dim-top.ensures _ c.source_of-cells.ensures in record { ready = all.0; source = all.1.0; d_nonzero = all.1.1 }
 
 pub returns : goal.returns
 returns c =

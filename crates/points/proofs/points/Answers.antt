@@ -21,12 +21,11 @@ loop-i-init c =
       before = omega arith;
       same = λ vs q. near_row-front vs a.book.now (min a.dst.0 (length a.book.now)) q a.own.0 a.n a.back.0 a.v s.requires.fact_1.through;
       short = λ vs i. omega (arith, length-near_row vs a.own.0 a.n a.back.0 a.v i, s.requires.fact_1.most);
-    } in
-    (
-  omega arith,
-  record { vertices = length-replicate {A = ℕ} 8192 0; groups = length-replicate {A = ℕ} 512 0; wide = length-replicate {A = ℕ} 32 0; low = λ j. omega (arith, get_or-zeros 8192 j) },
-  row-start (base),
-)
+    } in (
+      omega arith,
+      record { vertices = length-replicate {A = ℕ} 8192 0; groups = length-replicate {A = ℕ} 512 0; wide = length-replicate {A = ℕ} 32 0; low = λ j. omega (arith, get_or-zeros 8192 j) },
+      row-start (base),
+    )
 
 pub point_row-at-requires : goal.point_row-at-requires
 point_row-at-requires c =
@@ -44,7 +43,7 @@ point_row-at-requires c =
     let l = t.loop-i in
     let z = row-size b l.invariant.2 in
     let y = row-after b l.invariant.2 in
-    let s = t in record { fact_1 = around-front _ _ _ (row-front b l.invariant.2) s.requires.fact_1 _ (omega (arith, z, y)); fact_2 = l.invariant.1; fact_3 = t.loop-i-test.true; fact_4 = omega (arith, row-reach b l.invariant.2, s.requires.fact_1.most, s.requires.fact_2); }
+    let s = t in record { fact_1 = around-front _ _ _ (row-front b l.invariant.2) s.requires.fact_1 _ (omega (arith, z, y)); fact_2 = l.invariant.1; fact_3 = t.loop-i-test.true; fact_4 = omega (arith, row-reach b l.invariant.2, s.requires.fact_1.most, s.requires.fact_2) }
 
 pub overflow_add-offset : goal.overflow_add-offset
 overflow_add-offset c =

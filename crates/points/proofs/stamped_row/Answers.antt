@@ -28,7 +28,7 @@ write_met-requires c =
     let second = c in
     rw (second.start_of-from.ensures, second.start_of-to.ensures, row-slice _ _ _ c.args.i.0) at c.meet_all.ensures in
     let m = c in
-    let q = m.requires in record { fact_1 = omega (arith, q.fact_1.most); fact_2 = point-groups q.fact_1 m.args.i.0 q.fact_3 q.fact_2 (met-is); fact_3 = point-blocks q.fact_1 m.args.i.0 q.fact_3 q.fact_2 (met-is); fact_4 = q.fact_4; }
+    let q = m.requires in record { fact_1 = omega (arith, q.fact_1.most); fact_2 = point-groups q.fact_1 m.args.i.0 q.fact_3 q.fact_2 (met-is); fact_3 = point-blocks q.fact_1 m.args.i.0 q.fact_3 q.fact_2 (met-is); fact_4 = q.fact_4 }
 
 pub returns : goal.returns
 returns c =
@@ -36,4 +36,4 @@ returns c =
     let second = c in
     rw (second.start_of-from.ensures, second.start_of-to.ensures, row-slice _ _ _ c.args.i.0) at c.meet_all.ensures in
     let m = c in
-    let q = m.requires in record { written = rw (point-row-is q.fact_1 m.args.i.0 q.fact_3 q.fact_2 (met-is)) at c.write_met.ensures; fresh = point-fresh q.fact_1 m.args.i.0 q.fact_3 q.fact_2 (met-is); }
+    let q = m.requires in record { written = rw (point-row-is q.fact_1 m.args.i.0 q.fact_3 q.fact_2 (met-is)) at c.write_met.ensures; fresh = point-fresh q.fact_1 m.args.i.0 q.fact_3 q.fact_2 (met-is) }

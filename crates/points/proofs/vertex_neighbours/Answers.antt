@@ -5,7 +5,7 @@ use Rattle.points.proofs.vertex_neighbours.Goals as goal
 
 pub points-requires : goal.points-requires
 points-requires c =
-    let a = c.requires.ready in let s = c.requires.stands in let t = c.requires.stands_2 in record { fact_1 = ready-points a s t; fact_2 = used-fits a; }
+    let a = c.requires.ready in let s = c.requires.stands in let t = c.requires.stands_2 in record { fact_1 = ready-points a s t; fact_2 = used-fits a }
 
 pub returns : goal.returns
 returns c =

@@ -18,7 +18,7 @@ pub write_touched-at-requires : goal.write_touched-at-requires
 write_touched-at-requires c =
     let t = c in
     let l = t.loop-g in
-    let s = t in record { fact_1 = omega arith; fact_2 = s.requires.fact_2; fact_3 = omega (arith, kept-below _ _ l.invariant.3, length-range (s.args.first * 16) ((l.g - s.args.first) * 16), s.requires.fact_3); }
+    let s = t in record { fact_1 = omega arith; fact_2 = s.requires.fact_2; fact_3 = omega (arith, kept-below _ _ l.invariant.3, length-range (s.args.first * 16) ((l.g - s.args.first) * 16), s.requires.fact_3) }
 
 pub loop-g-preserved : goal.loop-g-preserved
 loop-g-preserved c =

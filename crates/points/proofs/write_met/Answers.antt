@@ -14,7 +14,7 @@ pub write_block-at-requires : goal.write_block-at-requires
 write_block-at-requires c =
     let t = c in
     let l = t.loop-b in
-    let s = t in record { fact_1 = omega arith; fact_2 = s.requires.fact_2; fact_3 = s.requires.fact_3; fact_4 = omega (arith, kept-below _ _ l.invariant.2, length-up_to (l.b * 256), s.requires.fact_4); }
+    let s = t in record { fact_1 = omega arith; fact_2 = s.requires.fact_2; fact_3 = s.requires.fact_3; fact_4 = omega (arith, kept-below _ _ l.invariant.2, length-up_to (l.b * 256), s.requires.fact_4) }
 
 pub loop-b-preserved : goal.loop-b-preserved
 loop-b-preserved c =

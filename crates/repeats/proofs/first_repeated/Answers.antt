@@ -16,7 +16,7 @@ loop-i-init c = (omega arith, chains-none _ 8192 4096, λ j l. absurd (omega ari
 pub meet-requires : goal.meet-requires
 meet-requires c =
     let a = c.args in
-    let l = c.loop-i in record { fact_1 = omega (arith, c.requires.fact_2, row_fits a.size l.i a.n c.loop-i-test.true); fact_2 = omega (arith, c.requires.fact_1, c.loop-i-test.true); fact_3 = l.invariant.1; }
+    let l = c.loop-i in record { fact_1 = omega (arith, c.requires.fact_2, row_fits a.size l.i a.n c.loop-i-test.true); fact_2 = omega (arith, c.requires.fact_1, c.loop-i-test.true); fact_3 = l.invariant.1 }
 
 pub returns-then-meet : goal.returns-then-meet
 returns-then-meet c =

@@ -39,7 +39,7 @@ in_chain-requires c =
     (c.requires.fact_3.newest c.bucket-v.result (low)) in
     let a = c.args in
     let w = newest-is in
-    let m = mul-le-mul_left a.size w.within in record { fact_1 = omega (arith, c.requires.fact_1); fact_2 = chain-links c.requires.fact_3 _ (low); fact_3 = λ i e. w.own i e ∙ ap bucket_of (sym c.row_at-row.ensures); }
+    let m = mul-le-mul_left a.size w.within in record { fact_1 = omega (arith, c.requires.fact_1); fact_2 = chain-links c.requires.fact_3 _ (low); fact_3 = λ i e. w.own i e ∙ ap bucket_of (sym c.row_at-row.ensures) }
 
 pub returns-then-in_chain : goal.returns-then-in_chain
 unfolding bucket_at rows_in
@@ -55,7 +55,7 @@ returns-then-in_chain c =
     let found : any_of (same (row_at c.args.size c.args.words.now c.args.i)) (rows_in c.args.size c.args.words.now c.args.i) ≡ c.in_chain.result =
     let a = c.args in
     among-newest (row_at a.size a.words.now) _ (bucket-only a.size a.words.now _) (newest-is) ∙ sym (c.in_chain.ensures ∙ rw c.row_at-row.ensures) in
-    record { value = sym (found ∙ c.if-in_chain.true); chains = λ e. c.requires.fact_3; chains_2 = λ e. absurd (true≢false e); }
+    record { value = sym (found ∙ c.if-in_chain.true); chains = λ e. c.requires.fact_3; chains_2 = λ e. absurd (true≢false e) }
 
 pub offset_bounds-head-v-2 : goal.offset_bounds-head-v-2
 offset_bounds-head-v-2 c =
@@ -83,4 +83,4 @@ returns c =
     let found : any_of (same (row_at c.args.size c.args.words.now c.args.i)) (rows_in c.args.size c.args.words.now c.args.i) ≡ c.in_chain.result =
     let a = c.args in
     among-newest (row_at a.size a.words.now) _ (bucket-only a.size a.words.now _) (newest-is) ∙ sym (c.in_chain.ensures ∙ rw c.row_at-row.ensures) in
-    record { value = sym (found ∙ c.if-in_chain.false); chains = λ e. absurd (true≢false (sym e)); chains_2 = λ e. chains-more c.requires.fact_3 _ (low) c.requires.fact_2 (sym (bucket-is)); }
+    record { value = sym (found ∙ c.if-in_chain.false); chains = λ e. absurd (true≢false (sym e)); chains_2 = λ e. chains-more c.requires.fact_3 _ (low) c.requires.fact_2 (sym (bucket-is)) }

@@ -30,7 +30,7 @@ pub relation_seen-seen-requires : goal.relation_seen-seen-requires
 relation_seen-seen-requires c =
     let holds : let l = c in held l.args.book.now l.loop-k.k ≡ true =
     sym c.held.ensures ∙ c.if-held.true in
-    let l = c in record { fact_1 = record { framed = l.requires; holds = holds }; fact_2 = l.loop-k.invariant.1.0; }
+    let l = c in record { fact_1 = record { framed = l.requires; holds = holds }; fact_2 = l.loop-k.invariant.1.0 }
 
 pub overflow_add-at : goal.overflow_add-at
 overflow_add-at c =

@@ -84,7 +84,7 @@ first_repeated-requires c =
     ) in
     let s = c in
     let room = top-room s.args.book.now s.args.k s.requires.fact_1 s.requires.fact_2.0 in
-    let long = part-whole c.part-cells.ensures (rw (s.requires.fact_2.1.1, s.requires.fact_2.1.0) room) in record { fact_1 = (few).1.0; fact_2 = omega (arith, long); }
+    let long = part-whole c.part-cells.ensures (rw (s.requires.fact_2.1.1, s.requires.fact_2.1.0) room) in record { fact_1 = (few).1.0; fact_2 = omega (arith, long) }
 
 pub overflow_mul-result : goal.overflow_mul-result
 overflow_mul-result c =

@@ -37,7 +37,7 @@ cell_again-requires c =
     c.if-k-key.false ∙ key-is in
     let late : let a = c.args in count a.book.now (a.k / 4) < c.rows_seen-seen.result =
     omega (arith, c.count-n.ensures) in
-    let s = c in record { fact_1 = record { stands = s.requires.fact_1; fine = late-fine s.args.book.now s.args.k _ (late) c.rows_seen-seen.ensures }; fact_2 = (top, (s.requires.fact_2, c.count-n.ensures)); }
+    let s = c in record { fact_1 = record { stands = s.requires.fact_1; fine = late-fine s.args.book.now s.args.k _ (late) c.rows_seen-seen.ensures }; fact_2 = (top, (s.requires.fact_2, c.count-n.ensures)) }
 
 pub returns : goal.returns
 returns c =

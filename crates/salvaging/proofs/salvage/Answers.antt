@@ -35,7 +35,7 @@ returns-in-Short c =
     ap fault_number c.head_fault.ensures ∙ head-back c.args.file.now in
     let a = c.args in
     let f = a.file.now in
-    let n : file_number f ≡ 1 = head-own f 1 (omega arith) (sym (told) ∙ ap fault_number c.in-Short.is) in let all = refused f a.out.now a.dropped.now answers.Short 1 refl refl (λ z. omega arith) (head-refused f a.out.now a.dropped.now 1 (omega arith) (omega arith) n) in record { number = all.0; given = all.1.0; bytes = all.1.1.0; list = all.1.1.1; }
+    let n : file_number f ≡ 1 = head-own f 1 (omega arith) (sym (told) ∙ ap fault_number c.in-Short.is) in let all = refused f a.out.now a.dropped.now answers.Short 1 refl refl (λ z. omega arith) (head-refused f a.out.now a.dropped.now 1 (omega arith) (omega arith) n) in record { number = all.0; given = all.1.0; bytes = all.1.1.0; list = all.1.1.1 }
 
 pub returns-in-NoDimension : goal.returns-in-NoDimension
 unfolding salvaged_number salvaged_given fault_number
@@ -44,7 +44,7 @@ returns-in-NoDimension c =
     ap fault_number c.head_fault.ensures ∙ head-back c.args.file.now in
     let a = c.args in
     let f = a.file.now in
-    let n : file_number f ≡ 2 = head-own f 2 (omega arith) (sym (told) ∙ ap fault_number c.in-NoDimension.is) in let all = refused f a.out.now a.dropped.now answers.NoDimension 2 refl refl (λ z. omega arith) (head-refused f a.out.now a.dropped.now 2 (omega arith) (omega arith) n) in record { number = all.0; given = all.1.0; bytes = all.1.1.0; list = all.1.1.1; }
+    let n : file_number f ≡ 2 = head-own f 2 (omega arith) (sym (told) ∙ ap fault_number c.in-NoDimension.is) in let all = refused f a.out.now a.dropped.now answers.NoDimension 2 refl refl (λ z. omega arith) (head-refused f a.out.now a.dropped.now 2 (omega arith) (omega arith) n) in record { number = all.0; given = all.1.0; bytes = all.1.1.0; list = all.1.1.1 }
 
 pub returns-in-ManyVertices : goal.returns-in-ManyVertices
 unfolding salvaged_number salvaged_given fault_number
@@ -53,7 +53,7 @@ returns-in-ManyVertices c =
     ap fault_number c.head_fault.ensures ∙ head-back c.args.file.now in
     let a = c.args in
     let f = a.file.now in
-    let n : file_number f ≡ 3 = head-own f 3 (omega arith) (sym (told) ∙ ap fault_number c.in-ManyVertices.is) in let all = refused f a.out.now a.dropped.now answers.ManyVertices 3 refl refl (λ z. omega arith) (head-refused f a.out.now a.dropped.now 3 (omega arith) (omega arith) n) in record { number = all.0; given = all.1.0; bytes = all.1.1.0; list = all.1.1.1; }
+    let n : file_number f ≡ 3 = head-own f 3 (omega arith) (sym (told) ∙ ap fault_number c.in-ManyVertices.is) in let all = refused f a.out.now a.dropped.now answers.ManyVertices 3 refl refl (λ z. omega arith) (head-refused f a.out.now a.dropped.now 3 (omega arith) (omega arith) n) in record { number = all.0; given = all.1.0; bytes = all.1.1.0; list = all.1.1.1 }
 
 pub returns-in-ManyCells : goal.returns-in-ManyCells
 unfolding salvaged_number salvaged_given fault_number
@@ -62,4 +62,4 @@ returns-in-ManyCells c =
     ap fault_number c.head_fault.ensures ∙ head-back c.args.file.now in
     let a = c.args in
     let f = a.file.now in
-    let n : file_number f ≡ 4 = head-own f 4 (omega arith) (sym (told) ∙ ap fault_number c.in-ManyCells.is) in let all = refused f a.out.now a.dropped.now answers.ManyCells 4 refl refl (λ z. omega arith) (head-refused f a.out.now a.dropped.now 4 (omega arith) (omega arith) n) in record { number = all.0; given = all.1.0; bytes = all.1.1.0; list = all.1.1.1; }
+    let n : file_number f ≡ 4 = head-own f 4 (omega arith) (sym (told) ∙ ap fault_number c.in-ManyCells.is) in let all = refused f a.out.now a.dropped.now answers.ManyCells 4 refl refl (λ z. omega arith) (head-refused f a.out.now a.dropped.now 4 (omega arith) (omega arith) n) in record { number = all.0; given = all.1.0; bytes = all.1.1.0; list = all.1.1.1 }

@@ -48,7 +48,7 @@ returns-then-buffer_short c =
     c.length-length.ensures ∙ ap head_length (saved-is) ∙ saved-head-length c.args.file.now c.requires in
     let s = c in
     let a = s.args in
-    let e : ltb (length a.out.now) (saved_length a.file.now) ≡ true = ap (ltb (length a.out.now)) (sym (length-is)) ∙ lt-ltb _ _ c.if-buffer_short.true in let all = refused a.file.now a.out.now a.dropped.now answers.BufferTooShort 18 refl refl (λ z. omega arith) (past_head a.file.now a.out.now a.dropped.now s.requires ∙ rw e) in record { number = all.0; given = all.1.0; bytes = all.1.1.0; list = all.1.1.1; }
+    let e : ltb (length a.out.now) (saved_length a.file.now) ≡ true = ap (ltb (length a.out.now)) (sym (length-is)) ∙ lt-ltb _ _ c.if-buffer_short.true in let all = refused a.file.now a.out.now a.dropped.now answers.BufferTooShort 18 refl refl (λ z. omega arith) (past_head a.file.now a.out.now a.dropped.now s.requires ∙ rw e) in record { number = all.0; given = all.1.0; bytes = all.1.1.0; list = all.1.1.1 }
 
 -- the bytes written, and the list
 written_is : (c : goal.After-length) → c.write.new.bytes ≡ saved c.args.file.now ++ drop (saved_length c.args.file.now) c.args.out.now
@@ -111,7 +111,7 @@ returns-then-list_short c =
     let s = c in
     let a = s.args in
     let e : ltb (length a.dropped.now) (2 * file_cells a.file.now) ≡ true = ap (λ (n : ℕ). ltb (length a.dropped.now) (2 * n)) (sym (count-is)) ∙ lt-ltb _ _ c.if-list_short.true in let all = refused a.file.now a.out.now a.dropped.now answers.ListLength 21 refl refl (λ z. omega arith)
-    (past_head a.file.now a.out.now a.dropped.now s.requires ∙ rw (le-ltb (length a.out.now) (saved_length a.file.now) (room), e)) in record { number = all.0; given = all.1.0; bytes = all.1.1.0; list = all.1.1.1; }
+    (past_head a.file.now a.out.now a.dropped.now s.requires ∙ rw (le-ltb (length a.out.now) (saved_length a.file.now) (room), e)) in record { number = all.0; given = all.1.0; bytes = all.1.1.0; list = all.1.1.1 }
 
 pub overflow_mul-vertices : goal.overflow_mul-vertices
 overflow_mul-vertices c =
@@ -162,7 +162,7 @@ list_dropped-requires c =
     let places : 2 * file_cells c.args.file.now ≤ length c.args.dropped.now =
     ltb-false _ _ (ap (λ (n : ℕ). ltb (length c.args.dropped.now) (2 * n)) (sym (count-is)) ∙ le-ltb _ _ c.if-list_short.false) in
     let s = c in
-    let n = count-is in record { fact_1 = omega (arith, n, s.requires.cells); fact_2 = c.keep_cells-k.ensures.lengths.1; fact_3 = rw n (places); }
+    let n = count-is in record { fact_1 = omega (arith, n, s.requires.cells); fact_2 = c.keep_cells-k.ensures.lengths.1; fact_3 = rw n (places) }
 
 pub overflow_sub-result : goal.overflow_sub-result
 overflow_sub-result c =
@@ -193,4 +193,4 @@ returns c =
     let f = a.file.now in
     let n : c.cells-count.result - c.keep_cells-k.result ≡ dropped_count f = omega (arith, count-is, c.keep_cells-k.ensures.number, all-accounted f) in let all = accepted f a.out.now a.dropped.now s.requires (room) (places) _ _ _
     (rw (length-is, n, spare-is c, c.pad_set.ensures, asked_is c))
-    (written_is c) (listed-is c) in record { number = all.0; given = all.1.0; bytes = all.1.1.0; list = all.1.1.1; }
+    (written_is c) (listed-is c) in record { number = all.0; given = all.1.0; bytes = all.1.1.0; list = all.1.1.1 }

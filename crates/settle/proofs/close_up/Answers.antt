@@ -18,4 +18,4 @@ returns c =
     let z = c in
     let m = z in
     let p = m.requires in
-    let w = m.move_down-end.ensures in record { place = w.place; words = closed-up _ _ _ _ _ _ _ p.0.order p.0.inside p.1 w.place w.words z.zero.ensures; }
+    let w = m.move_down-end.ensures in record { place = w.place; words = closed-up _ _ _ _ _ _ _ p.0.order p.0.inside p.1 w.place w.words z.zero.ensures }

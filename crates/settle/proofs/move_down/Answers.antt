@@ -20,4 +20,4 @@ shape_of-book c = c.loop-i.invariant.0.size
 pub returns : goal.returns
 returns c = let s = c in
     let l = c.loop-i in
-    let e : l.i ≡ s.args.end.0 = omega (arith, l.invariant.1, c.loop-i-test.false) in record { place = omega (arith, l.invariant.0.place); words = lowering-all _ _ _ _ _ _ _ l.invariant.0 e; }
+    let e : l.i ≡ s.args.end.0 = omega (arith, l.invariant.1, c.loop-i-test.false) in record { place = omega (arith, l.invariant.0.place); words = lowering-all _ _ _ _ _ _ _ l.invariant.0 e }

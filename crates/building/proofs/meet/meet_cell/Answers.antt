@@ -15,7 +15,7 @@ meet-met-requires c =
     let l = c in
     let s = l in
     let q = s.requires.fact_4 in
-    let h = l.loop-j.invariant in record { fact_1 = h.chained; fact_2 = omega (arith, h.few, s.requires.fact_2, s.requires.fact_3, l.loop-j-test.true); fact_3 = q.size _ l.loop-j-test.true; fact_4 = q.below _ l.loop-j-test.true; }
+    let h = l.loop-j.invariant in record { fact_1 = h.chained; fact_2 = omega (arith, h.few, s.requires.fact_2, s.requires.fact_3, l.loop-j-test.true); fact_3 = q.size _ l.loop-j-test.true; fact_4 = q.below _ l.loop-j-test.true }
 
 pub loop-j-preserved : goal.loop-j-preserved
 loop-j-preserved c =
@@ -26,4 +26,4 @@ loop-j-preserved c =
 
 pub returns : goal.returns
 returns c =
-    let h = c.loop-j.invariant in record { chained = h.chained; result_after = meeting-all h c.loop-j-test.false; upper_bound = omega (arith, h.few, h.high, c.requires.fact_3); }
+    let h = c.loop-j.invariant in record { chained = h.chained; result_after = meeting-all h c.loop-j-test.false; upper_bound = omega (arith, h.few, h.high, c.requires.fact_3) }

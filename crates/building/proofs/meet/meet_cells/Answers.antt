@@ -41,7 +41,7 @@ pub meet_cell-n-requires : goal.meet_cell-n-requires
 meet_cell-n-requires c =
     let h = c.loop-c.invariant in
     let s = c in
-    let m = c.choices-many.ensures in record { fact_1 = h.chained; fact_2 = omega (arith, h.few, c.loop-c-test.true, s.requires.fact_3.few); fact_3 = omega (arith, m, most-few s.args.top s.args.d); fact_4 = rw m (candidates-good c); }
+    let m = c.choices-many.ensures in record { fact_1 = h.chained; fact_2 = omega (arith, h.few, c.loop-c-test.true, s.requires.fact_3.few); fact_3 = omega (arith, m, most-few s.args.top s.args.d); fact_4 = rw m (candidates-good c) }
 
 pub loop-c-preserved : goal.loop-c-preserved
 loop-c-preserved c =
@@ -54,4 +54,4 @@ loop-c-preserved c =
     found-more h k.loop-c-test.true e.chained _ (rw k.choices-many.ensures at e.result_after) (candidates-are) e.upper_bound
 
 pub returns : goal.returns
-returns c = record { chained = c.loop-c.invariant.chained; result_after = found_all c.loop-c.invariant c.loop-c-test.false; }
+returns c = record { chained = c.loop-c.invariant.chained; result_after = found_all c.loop-c.invariant c.loop-c-test.false }

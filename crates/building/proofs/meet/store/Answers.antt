@@ -8,4 +8,4 @@ use Rattle.building.proofs.meet.store.Goals as goal
 pub returns : goal.returns
 returns c =
     let a = c.args in
-    let s = a.candidate in record { i_after = stored-entity a.sets.now a.i (get_or s 0 0) (get_or s 1 0) (get_or s 2 0) c.requires.0 c.requires.1.0 ∙ sym (three-members s c.requires.1.1); by_index = stored-front a.sets.now a.i (get_or s 0 0) (get_or s 1 0) (get_or s 2 0); sets_len = stored-long a.sets.now a.i (get_or s 0 0) (get_or s 1 0) (get_or s 2 0) ∙ c.requires.1.0; }
+    let s = a.candidate in record { i_after = stored-entity a.sets.now a.i (get_or s 0 0) (get_or s 1 0) (get_or s 2 0) c.requires.0 c.requires.1.0 ∙ sym (three-members s c.requires.1.1); by_index = stored-front a.sets.now a.i (get_or s 0 0) (get_or s 1 0) (get_or s 2 0); sets_len = stored-long a.sets.now a.i (get_or s 0 0) (get_or s 1 0) (get_or s 2 0) ∙ c.requires.1.0 }

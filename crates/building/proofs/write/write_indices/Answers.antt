@@ -12,7 +12,7 @@ loop-i-init c = listing_none _ _ _ _ _
 pub write_set-requires : goal.write_set-requires
 write_set-requires c =
     let l = c in
-    let s = l in record { fact_1 = (omega (arith, s.requires.fact_1.0, l.loop-i-test.true), (s.requires.fact_1.1.0, omega (arith, l.loop-i.invariant.reach, s.requires.fact_1.0, s.requires.fact_1.1.1, l.loop-i-test.true))); fact_2 = s.requires.fact_2; }
+    let s = l in record { fact_1 = (omega (arith, s.requires.fact_1.0, l.loop-i-test.true), (s.requires.fact_1.1.0, omega (arith, l.loop-i.invariant.reach, s.requires.fact_1.0, s.requires.fact_1.1.1, l.loop-i-test.true))); fact_2 = s.requires.fact_2 }
 
 pub overflow_add-to : goal.overflow_add-to
 overflow_add-to c =

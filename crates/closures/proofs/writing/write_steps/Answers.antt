@@ -37,4 +37,4 @@ pub returns : goal.returns
 returns c =
     let at-loop = c.loop-i in
     let args = c.args in
-    let n = length args.steps.now in record { steps = placed-all (stepped args.counts.now args.edges.now) nan n at-loop.i at-loop.steps at-loop.invariant.1.0 c.loop-i-test.false; bytes = placed-all (marked args.counts.now args.edges.now) 0 n at-loop.i at-loop.bytes at-loop.invariant.1.1 c.loop-i-test.false; }
+    let n = length args.steps.now in record { steps = placed-all (stepped args.counts.now args.edges.now) nan n at-loop.i at-loop.steps at-loop.invariant.1.0 c.loop-i-test.false; bytes = placed-all (marked args.counts.now args.edges.now) 0 n at-loop.i at-loop.bytes at-loop.invariant.1.1 c.loop-i-test.false }

@@ -47,7 +47,7 @@ returns-then-out-cell_count c =
     let s = c in
     let p = sound in
     let out = out-is in
-    let n = vertex-out (c.args.file.now) p (rw (cells_is, out) at c.if-out-cell_count.true) in record { fault = rw (n, cell_out (c.args.file.now) n, ← out); words = laid; }
+    let n = vertex-out (c.args.file.now) p (rw (cells_is, out) at c.if-out-cell_count.true) in record { fault = rw (n, cell_out (c.args.file.now) n, ← out); words = laid }
 
 pub first_twice-twice-requires : goal.first_twice-twice-requires
 first_twice-twice-requires c =
@@ -82,7 +82,7 @@ returns-then-twice-cell_count c =
     let s = q in
     let p = sound in
     let two = twice-is in
-    let n = vertex-twice (c.args.file.now) p (none_out) (rw (cells_is, two) at c.if-twice-cell_count.true) in record { fault = rw (n, cell-twice (c.args.file.now) n, ← two); words = laid; }
+    let n = vertex-twice (c.args.file.now) p (none_out) (rw (cells_is, two) at c.if-twice-cell_count.true) in record { fault = rw (n, cell-twice (c.args.file.now) n, ← two); words = laid }
 
 pub first_again-again-requires : goal.first_again-again-requires
 first_again-again-requires c =
@@ -121,7 +121,7 @@ returns-then-again-cell_count c =
     let s = q in
     let p = sound in
     let again = again-is in
-    let n = cell-repeated (c.args.file.now) p (none_out) (none-twice) (rw (cells_is, again) at c.if-again-cell_count.true) in record { fault = rw (n, cell-repeats (c.args.file.now) n, ← again); words = laid; }
+    let n = cell-repeated (c.args.file.now) p (none_out) (none-twice) (rw (cells_is, again) at c.if-again-cell_count.true) in record { fault = rw (n, cell-repeats (c.args.file.now) n, ← again); words = laid }
 
 pub bits_after-requires : goal.bits_after-requires
 bits_after-requires c =
@@ -157,7 +157,7 @@ returns-then-bits_after c =
     omega (arith, cells_is, again-is) in
     let q = c in
     let s = q in
-    let p = sound in record { fault = rw (bits-after (c.args.file.now) p (none_out) (none-twice) (none-again) (sym c.bits_after.ensures ∙ c.if-bits_after.true)); words = laid; }
+    let p = sound in record { fault = rw (bits-after (c.args.file.now) p (none_out) (none-twice) (none-again) (sym c.bits_after.ensures ∙ c.if-bits_after.true)); words = laid }
 
 pub returns : goal.returns
 unfolding first_faults fault_of
@@ -184,4 +184,4 @@ returns c =
     omega (arith, cells_is, again-is) in
     let q = c in
     let s = q in
-    let p = sound in record { fault = rw (no-fault (c.args.file.now) p (none_out) (none-twice) (none-again) (sym c.bits_after.ensures ∙ c.if-bits_after.false)); words = laid; }
+    let p = sound in record { fault = rw (no-fault (c.args.file.now) p (none_out) (none-twice) (none-again) (sym c.bits_after.ensures ∙ c.if-bits_after.false)); words = laid }

@@ -16,7 +16,7 @@ returns-then-number_of-ne0 c =
     c.number_of.ensures ∙ ap fault_number c.head_fault-early.ensures ∙ head-back (c.args.file.now) in
     let n = c in
     let e = n.head_fault-early.ensures ∙ head_first (c.args.file.now) (λ z. c.if-number_of-ne0.true (head-number ∙ z)) in
-    let g = faulty (c.args.file.now) (c.args.book.now) _ e (λ z. c.if-number_of-ne0.true (n.number_of.ensures ∙ z)) in record { number = c.refused.ensures.0 ∙ g.number_is; cell = c.refused.ensures.1 ∙ g.cell-is; words = g.words_are; }
+    let g = faulty (c.args.file.now) (c.args.book.now) _ e (λ z. c.if-number_of-ne0.true (n.number_of.ensures ∙ z)) in record { number = c.refused.ensures.0 ∙ g.number_is; cell = c.refused.ensures.1 ∙ g.cell-is; words = g.words_are }
 
 pub body_fault-fault-requires : goal.body_fault-fault-requires
 body_fault-fault-requires c =
@@ -29,7 +29,7 @@ returns-then-number_of-ne0-2 c =
     let found : c.body_fault-fault.result ≡ fault_of (file_number (c.args.file.now)) (fault_cell (c.args.file.now)) =
     c.body_fault-fault.ensures.fault in
     let n = c in
-    let g = faulty (c.args.file.now) (c.args.book.now) _ (found) (λ z. c.if-number_of-ne0-2.true (n.number_of-2.ensures ∙ z)) in record { number = c.refused-then-number_of-ne0-2.ensures.0 ∙ g.number_is; cell = c.refused-then-number_of-ne0-2.ensures.1 ∙ g.cell-is; words = g.words_are; }
+    let g = faulty (c.args.file.now) (c.args.book.now) _ (found) (λ z. c.if-number_of-ne0-2.true (n.number_of-2.ensures ∙ z)) in record { number = c.refused-then-number_of-ne0-2.ensures.0 ∙ g.number_is; cell = c.refused-then-number_of-ne0-2.ensures.1 ∙ g.cell-is; words = g.words_are }
 
 pub returns-then-book-end : goal.returns-then-book-end
 unfolding loaded_number loaded_cell
@@ -42,7 +42,7 @@ returns-then-book-end c =
     words-needed (c.args.file.now) _ _ c.header.ensures c.end_of-end.ensures in
     let e = c in
     let l = e in
-    let g = crowded (c.args.file.now) (c.args.book.now) _ (found) (faultless) (rw (needed) at c.if-book-end.true) in record { number = g.number_is; cell = g.cell-is; words = g.words_are; }
+    let g = crowded (c.args.file.now) (c.args.book.now) _ (found) (faultless) (rw (needed) at c.if-book-end.true) in record { number = g.number_is; cell = g.cell-is; words = g.words_are }
 
 pub fill-requires : goal.fill-requires
 fill-requires c =
@@ -66,4 +66,4 @@ returns c =
     words-needed (c.args.file.now) _ _ c.header.ensures c.end_of-end.ensures in
     let e = c in
     let l = e in
-    let g = accepted (c.args.file.now) (c.args.book.now) _ (found) (faultless) (rw (needed) at c.if-book-end.false) in record { number = g.number_is; cell = g.cell-is; words = c.fill.ensures ∙ g.words_are; }
+    let g = accepted (c.args.file.now) (c.args.book.now) _ (found) (faultless) (rw (needed) at c.if-book-end.false) in record { number = g.number_is; cell = g.cell-is; words = c.fill.ensures ∙ g.words_are }

@@ -24,7 +24,7 @@ returns-in-Accepted c =
     let r = c in
     let a = r.args in
     let s = c.search_row.ensures in
-    let z = sym r.row_answer.ensures.number ∙ ap row_answer c.in-Accepted.is in record { number = s.number; yes = s.yes; read = s.read; place = s.place ∙ accepted-told a.book.now a.d a.e a.i a.j z; }
+    let z = sym r.row_answer.ensures.number ∙ ap row_answer c.in-Accepted.is in record { number = s.number; yes = s.yes; read = s.read; place = s.place ∙ accepted-told a.book.now a.d a.e a.i a.j z }
 
 -- a refusal with Row's number and Row's place is Find's answer
 refused : (ws : List ℕ) (d e i j : ℕ) (r : Found) → eqb (found_number r) 0 ≡ false → found_number r ≡ row_number ws d e i → found_place r ≡ told (row_number ws d e i) (row_broken_at ws d e i) → 0 < found_number r
@@ -38,24 +38,24 @@ refused ws d e i j r h n p l =
 pub returns-in-FrameBroken : goal.returns-in-FrameBroken
 unfolding row_answer row_answer_place found_number found_place
 returns-in-FrameBroken c =
-    let r = c.row_answer.ensures in let all = refused _ _ _ _ _ _ refl (sym (ap row_answer c.in-FrameBroken.is) ∙ r.number) (sym (ap row_answer_place c.in-FrameBroken.is) ∙ r.place) (omega arith) in record { number = all.0; yes = all.1.0; read = all.1.1.0; place = all.1.1.1; }
+    let r = c.row_answer.ensures in let all = refused _ _ _ _ _ _ refl (sym (ap row_answer c.in-FrameBroken.is) ∙ r.number) (sym (ap row_answer_place c.in-FrameBroken.is) ∙ r.place) (omega arith) in record { number = all.0; yes = all.1.0; read = all.1.1.0; place = all.1.1.1 }
 
 pub returns-in-DimensionOver : goal.returns-in-DimensionOver
 unfolding row_answer row_answer_place found_number found_place
 returns-in-DimensionOver c =
-    let r = c.row_answer.ensures in let all = refused _ _ _ _ _ _ refl (sym (ap row_answer c.in-DimensionOver.is) ∙ r.number) (sym (ap row_answer_place c.in-DimensionOver.is) ∙ r.place) (omega arith) in record { number = all.0; yes = all.1.0; read = all.1.1.0; place = all.1.1.1; }
+    let r = c.row_answer.ensures in let all = refused _ _ _ _ _ _ refl (sym (ap row_answer c.in-DimensionOver.is) ∙ r.number) (sym (ap row_answer_place c.in-DimensionOver.is) ∙ r.place) (omega arith) in record { number = all.0; yes = all.1.0; read = all.1.1.0; place = all.1.1.1 }
 
 pub returns-in-NotHeld : goal.returns-in-NotHeld
 unfolding row_answer row_answer_place found_number found_place
 returns-in-NotHeld c =
-    let r = c.row_answer.ensures in let all = refused _ _ _ _ _ _ refl (sym (ap row_answer c.in-NotHeld.is) ∙ r.number) (sym (ap row_answer_place c.in-NotHeld.is) ∙ r.place) (omega arith) in record { number = all.0; yes = all.1.0; read = all.1.1.0; place = all.1.1.1; }
+    let r = c.row_answer.ensures in let all = refused _ _ _ _ _ _ refl (sym (ap row_answer c.in-NotHeld.is) ∙ r.number) (sym (ap row_answer_place c.in-NotHeld.is) ∙ r.place) (omega arith) in record { number = all.0; yes = all.1.0; read = all.1.1.0; place = all.1.1.1 }
 
 pub returns-in-NoSuchEntity : goal.returns-in-NoSuchEntity
 unfolding row_answer row_answer_place found_number found_place
 returns-in-NoSuchEntity c =
-    let r = c.row_answer.ensures in let all = refused _ _ _ _ _ _ refl (sym (ap row_answer c.in-NoSuchEntity.is) ∙ r.number) (sym (ap row_answer_place c.in-NoSuchEntity.is) ∙ r.place) (omega arith) in record { number = all.0; yes = all.1.0; read = all.1.1.0; place = all.1.1.1; }
+    let r = c.row_answer.ensures in let all = refused _ _ _ _ _ _ refl (sym (ap row_answer c.in-NoSuchEntity.is) ∙ r.number) (sym (ap row_answer_place c.in-NoSuchEntity.is) ∙ r.place) (omega arith) in record { number = all.0; yes = all.1.0; read = all.1.1.0; place = all.1.1.1 }
 
 pub returns-in-RowsBroken : goal.returns-in-RowsBroken
 unfolding row_answer row_answer_place found_number found_place
 returns-in-RowsBroken c =
-    let r = c.row_answer.ensures in let all = refused _ _ _ _ _ _ refl (sym (ap row_answer c.in-RowsBroken.is) ∙ r.number) (sym (ap row_answer_place c.in-RowsBroken.is) ∙ r.place) (omega arith) in record { number = all.0; yes = all.1.0; read = all.1.1.0; place = all.1.1.1; }
+    let r = c.row_answer.ensures in let all = refused _ _ _ _ _ _ refl (sym (ap row_answer c.in-RowsBroken.is) ∙ r.number) (sym (ap row_answer_place c.in-RowsBroken.is) ∙ r.place) (omega arith) in record { number = all.0; yes = all.1.0; read = all.1.1.0; place = all.1.1.1 }

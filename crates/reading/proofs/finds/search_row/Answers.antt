@@ -16,7 +16,7 @@ returns-then-j-count c =
     let s = c in
     let a = s.args in
     let e = find-19 a.book.now a.d a.e a.i a.j s.requires (omega (arith, c.if-j-count.true, c.count.ensures)) in
-    let v = find-refused a.book.now a.d a.e a.i a.j (omega arith) in record { number = e; yes = sym v.0; read = sym v.1; place = refl; }
+    let v = find-refused a.book.now a.d a.e a.i a.j (omega arith) in record { number = e; yes = sym v.0; read = sym v.1; place = refl }
 
 pub key-requires : goal.key-requires
 key-requires c =
@@ -35,4 +35,4 @@ returns c =
     let z : find_number a.book.now a.d a.e a.i a.j ≡ 0 = find-0 a.book.now a.d a.e a.i a.j t.requires (omega (arith, l.if-j-count.false, l.count.ensures)) in
     let v = find-accepted a.book.now a.d a.e a.i a.j z in
     let w : c.row.result.now ≡ row_of a.book.now (key a.d a.e) a.i = c.row.ensures.words ∙ ap (λ (k : ℕ). row_of a.book.now k a.i) c.key.ensures in
-    let s = c.search.ensures in record { number = ap found_number s ∙ sym z; yes = ap found_yes s ∙ ap (found_in a.j) w ∙ sym v.0; read = ap found_read s ∙ ap (read_in a.j) w ∙ sym v.1; place = ap found_place s; }
+    let s = c.search.ensures in record { number = ap found_number s ∙ sym z; yes = ap found_yes s ∙ ap (found_in a.j) w ∙ sym v.0; read = ap found_read s ∙ ap (read_in a.j) w ∙ sym v.1; place = ap found_place s }

@@ -18,7 +18,7 @@ use Rattle.reading.proofs.numbers.euler.Goals as goal
 pub returns-then-not-frame_right : goal.returns-then-not-frame_right
 unfolding euler_answer euler_place
 returns-then-not-frame_right c =
-    let e = euler-10 c.args.book.now (off c.frame_right.ensures c.if-not-frame_right.true) in record { number = e; place = untold-as 10 _ _ refl e; value = λ z. absurd (omega arith); }
+    let e = euler-10 c.args.book.now (off c.frame_right.ensures c.if-not-frame_right.true) in record { number = e; place = untold-as 10 _ _ refl e; value = λ z. absurd (omega arith) }
 
 pub broken_at-requires : goal.broken_at-requires
 broken_at-requires c =
@@ -34,7 +34,7 @@ returns-in-BrokenAt c =
     let b = c in
     let ws = b.args.book.now in
     let p = sym (ap rows_place c.in-BrokenAt.is) ∙ b.broken_at.ensures in
-    let e = euler-11 ws (framed) (some-wrong ws (framed) _ (sym p)) in record { number = e; place = p ∙ told-eleven _ _ e; value = λ z. absurd (omega arith); }
+    let e = euler-11 ws (framed) (some-wrong ws (framed) _ (sym p)) in record { number = e; place = p ∙ told-eleven _ _ e; value = λ z. absurd (omega arith) }
 
 pub returns-then-set_missing : goal.returns-then-set_missing
 unfolding euler_answer euler_place missing rows_place
@@ -47,7 +47,7 @@ returns-then-set_missing c =
     let b = c in
     none_right b.args.book.now (framed) (sym b.broken_at.ensures ∙ ap rows_place c.in_default.is) in
     let r = c in
-    let e = euler-15-edges r.args.book.now (frame) (rowed) (sym c.set_missing.ensures ∙ c.if-set_missing.true) in record { number = e; place = untold-as 15 _ _ refl e; value = λ z. absurd (omega arith); }
+    let e = euler-15-edges r.args.book.now (frame) (rowed) (sym c.set_missing.ensures ∙ c.if-set_missing.true) in record { number = e; place = untold-as 15 _ _ refl e; value = λ z. absurd (omega arith) }
 
 pub returns-then-set_missing-2 : goal.returns-then-set_missing-2
 unfolding euler_answer euler_place missing rows_place
@@ -63,7 +63,7 @@ returns-then-set_missing-2 c =
     sym c.set_missing.ensures ∙ c.if-set_missing.false in
     let d = c in
     let r = d in
-    let e = euler-15-faces r.args.book.now (frame) (rowed) (edged) (sym c.set_missing-2.ensures ∙ c.if-set_missing-2.true) in record { number = e; place = untold-as 15 _ _ refl e; value = λ z. absurd (omega arith); }
+    let e = euler-15-faces r.args.book.now (frame) (rowed) (edged) (sym c.set_missing-2.ensures ∙ c.if-set_missing-2.true) in record { number = e; place = untold-as 15 _ _ refl e; value = λ z. absurd (omega arith) }
 
 faced : (c : goal.After-difference) → missing c.args.book.now 2 ≡ false
 unfolding missing
@@ -104,4 +104,4 @@ returns c =
     let f = c in
     let d = f in
     let r = d in
-    let e = euler-0 r.args.book.now (frame) (rowed) (edged) (faced f) in record { number = e; place = untold-as 0 _ _ refl e; value = λ z. to_z-of_z w64 c.difference.result (record { sfits = c.difference.type_inv }) ∙ c.difference.ensures ∙ ap₂ sub_ℕ c.even_sum.ensures c.odd_sum.ensures; }
+    let e = euler-0 r.args.book.now (frame) (rowed) (edged) (faced f) in record { number = e; place = untold-as 0 _ _ refl e; value = λ z. to_z-of_z w64 c.difference.result (record { sfits = c.difference.type_inv }) ∙ c.difference.ensures ∙ ap₂ sub_ℕ c.even_sum.ensures c.odd_sum.ensures }

@@ -7,8 +7,8 @@ use Rattle.reading.proofs.numbers.held_count.Goals as goal
 
 pub returns-then-not-frame_right : goal.returns-then-not-frame_right
 unfolding counted_number
-returns-then-not-frame_right c = record { number = held-10 c.args.book.now (off c.frame_right.ensures c.if-not-frame_right.true); count = λ z. absurd (omega arith); }
+returns-then-not-frame_right c = record { number = held-10 c.args.book.now (off c.frame_right.ensures c.if-not-frame_right.true); count = λ z. absurd (omega arith) }
 
 pub returns : goal.returns
 unfolding counted_number counted_relations
-returns c = record { number = held-0 c.args.book.now (on c.frame_right.ensures c.if-not-frame_right.false); count = λ z. c.keys_held.ensures; }
+returns c = record { number = held-0 c.args.book.now (on c.frame_right.ensures c.if-not-frame_right.false); count = λ z. c.keys_held.ensures }

@@ -15,7 +15,7 @@ pub returns-then-not-frame_right : goal.returns-then-not-frame_right
 unfolding row_answer row_answer_place
 returns-then-not-frame_right c =
     let a = c.args in
-    let r = row-10 a.book.now a.d a.e a.i (off c.frame_right.ensures c.if-not-frame_right.true) in record { number = r; place = untold-as 10 _ _ refl r; }
+    let r = row-10 a.book.now a.d a.e a.i (off c.frame_right.ensures c.if-not-frame_right.true) in record { number = r; place = untold-as 10 _ _ refl r }
 
 pub returns-then-d-top : goal.returns-then-d-top
 unfolding row_answer row_answer_place
@@ -23,7 +23,7 @@ returns-then-d-top c =
     let framed : frame_right c.args.book.now ≡ true =
     on c.frame_right.ensures c.if-not-frame_right.false in
     let a = c.args in
-    let r = row-12-first a.book.now a.d a.e a.i (framed) (omega (arith, c.dim-top.ensures, c.if-d-top.true)) in record { number = r; place = untold-as 12 _ _ refl r; }
+    let r = row-12-first a.book.now a.d a.e a.i (framed) (omega (arith, c.dim-top.ensures, c.if-d-top.true)) in record { number = r; place = untold-as 12 _ _ refl r }
 
 pub returns-then-e-top : goal.returns-then-e-top
 unfolding row_answer row_answer_place
@@ -33,7 +33,7 @@ returns-then-e-top c =
     let first : let a = c.args in a.d ≤ dim a.book.now =
     omega (arith, c.dim-top.ensures, c.if-d-top.false) in
     let a = c.args in
-    let r = row-12-second a.book.now a.d a.e a.i (framed) (first) (omega (arith, c.dim-top.ensures, c.if-e-top.true)) in record { number = r; place = untold-as 12 _ _ refl r; }
+    let r = row-12-second a.book.now a.d a.e a.i (framed) (first) (omega (arith, c.dim-top.ensures, c.if-e-top.true)) in record { number = r; place = untold-as 12 _ _ refl r }
 
 pub key-k-requires : goal.key-k-requires
 key-k-requires c =
@@ -59,7 +59,7 @@ returns-then-not-held c =
     c.held.ensures ∙ ap (held a.book.now) c.key-k.ensures in
     let a = c.args in
     let t = c in
-    let r = row-16 a.book.now a.d a.e a.i (framed) (first) (second) (off (holds) c.if-not-held.true) in record { number = r; place = untold-as 16 _ _ refl r; }
+    let r = row-16 a.book.now a.d a.e a.i (framed) (first) (second) (off (holds) c.if-not-held.true) in record { number = r; place = untold-as 16 _ _ refl r }
 
 pub returns-then-i-count : goal.returns-then-i-count
 unfolding row_answer row_answer_place
@@ -78,7 +78,7 @@ returns-then-i-count c =
     let a = c.args in
     let h = c in
     let t = h in
-    let r = row-17 a.book.now a.d a.e a.i (framed) (first) (second) (there) (omega (arith, c.count.ensures, c.if-i-count.true)) in record { number = r; place = untold-as 17 _ _ refl r; }
+    let r = row-17 a.book.now a.d a.e a.i (framed) (first) (second) (there) (omega (arith, c.count.ensures, c.if-i-count.true)) in record { number = r; place = untold-as 17 _ _ refl r }
 
 pub returns-then-not-offsets_right : goal.returns-then-not-offsets_right
 unfolding row_answer row_answer_place offsets_right
@@ -104,7 +104,7 @@ returns-then-not-offsets_right c =
     let h = n in
     let u = h in
     let a = u.args in
-    let r = row-11 a.book.now a.d a.e a.i (framed) (first) (second) (there) (below) (off (offsets) t.if-not-offsets_right.true) in record { number = r; place = row_told a.book.now a.d a.e a.i _ _ h.key-k.ensures c.broken_offset.ensures ∙ told-eleven _ _ r; }
+    let r = row-11 a.book.now a.d a.e a.i (framed) (first) (second) (there) (below) (off (offsets) t.if-not-offsets_right.true) in record { number = r; place = row_told a.book.now a.d a.e a.i _ _ h.key-k.ensures c.broken_offset.ensures ∙ told-eleven _ _ r }
 
 pub returns : goal.returns
 unfolding row_answer row_answer_place offsets_right
@@ -129,4 +129,4 @@ returns c =
     let n = c in
     let h = n in
     let t = h in
-    let r = row-0 a.book.now a.d a.e a.i (framed) (first) (second) (there) (below) (on (offsets) c.if-not-offsets_right.false) in record { number = r; place = untold-as 0 _ _ refl r; }
+    let r = row-0 a.book.now a.d a.e a.i (framed) (first) (second) (there) (below) (on (offsets) c.if-not-offsets_right.false) in record { number = r; place = untold-as 0 _ _ refl r }

@@ -13,7 +13,7 @@ pub returns-then-not-frame_right : goal.returns-then-not-frame_right
 unfolding written_number written_place written_length
 returns-then-not-frame_right c =
     let a = c.args in
-    let g = frame-broken a.book.now a.bytes.now (off c.frame_right.ensures c.if-not-frame_right.true) in record { number = g.number_is; place = untold-as 10 _ _ refl g.number_is; length = g.length-is; bytes = g.bytes-are; }
+    let g = frame-broken a.book.now a.bytes.now (off c.frame_right.ensures c.if-not-frame_right.true) in record { number = g.number_is; place = untold-as 10 _ _ refl g.number_is; length = g.length-is; bytes = g.bytes-are }
 
 pub broken_at-requires : goal.broken_at-requires
 broken_at-requires c =
@@ -30,7 +30,7 @@ returns-in-BrokenAt c =
     let a = b.args in
     let p = sym (ap rows_place c.in-BrokenAt.is) ∙ b.broken_at.ensures in
     let f = framed in
-    let g = rows-broken a.book.now a.bytes.now f (some-wrong a.book.now f _ (sym p)) in record { number = g.number_is; place = p ∙ told-eleven _ _ g.number_is; length = g.length-is; bytes = g.bytes-are; }
+    let g = rows-broken a.book.now a.bytes.now f (some-wrong a.book.now f _ (sym p)) in record { number = g.number_is; place = p ∙ told-eleven _ _ g.number_is; length = g.length-is; bytes = g.bytes-are }
 
 pub put_file-n-requires : goal.put_file-n-requires
 unfolding rows_place
@@ -57,7 +57,7 @@ returns-then-bytes-n c =
     let p = c in
     let r = p in
     let a = r.args in
-    let g = too_short a.book.now a.bytes.now (frame) (rowed) _ _ p.put_file-n.ensures (rw p.put_file-n.auto.bytes at c.if-bytes-n.true) in record { number = g.number_is; place = untold-as 18 _ _ refl g.number_is; length = g.length-is; bytes = g.bytes-are; }
+    let g = too_short a.book.now a.bytes.now (frame) (rowed) _ _ p.put_file-n.ensures (rw p.put_file-n.auto.bytes at c.if-bytes-n.true) in record { number = g.number_is; place = untold-as 18 _ _ refl g.number_is; length = g.length-is; bytes = g.bytes-are }
 
 pub returns : goal.returns
 unfolding written_number written_place written_length rows_place
@@ -72,4 +72,4 @@ returns c =
     let p = c in
     let r = p in
     let a = r.args in
-    let g = all-put a.book.now a.bytes.now (frame) (rowed) _ _ p.put_file-n.ensures (rw p.put_file-n.auto.bytes at c.if-bytes-n.false) in record { number = g.number_is; place = untold-as 0 _ _ refl g.number_is; length = g.length-is; bytes = g.bytes-are; }
+    let g = all-put a.book.now a.bytes.now (frame) (rowed) _ _ p.put_file-n.ensures (rw p.put_file-n.auto.bytes at c.if-bytes-n.false) in record { number = g.number_is; place = untold-as 0 _ _ refl g.number_is; length = g.length-is; bytes = g.bytes-are }

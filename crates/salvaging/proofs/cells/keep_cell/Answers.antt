@@ -16,7 +16,7 @@ use Rattle.salvaging.proofs.cells.keep_cell.Goals as goal
 pub returns-then-is_cut : goal.returns-then-is_cut
 returns-then-is_cut c =
     let s = c in
-    let w = why-cut s.args.file.now s.args.c (sym c.is_cut.ensures ∙ c.if-is_cut.true) in record { why = sym w; rows = looked-same s.requires.fact_5 (λ z. omega (arith, w)); vertices = sym (append-nil _); length = s.requires.fact_4; }
+    let w = why-cut s.args.file.now s.args.c (sym c.is_cut.ensures ∙ c.if-is_cut.true) in record { why = sym w; rows = looked-same s.requires.fact_5 (λ z. omega (arith, w)); vertices = sym (append-nil _); length = s.requires.fact_4 }
 
 pub in_file-v-requires : goal.in_file-v-requires
 in_file-v-requires c =
@@ -43,7 +43,7 @@ row_is c =
 
 pub look-why-requires : goal.look-why-requires
 look-why-requires c =
-    let s = c in record { fact_1 = s.requires.fact_1; fact_2 = s.requires.fact_2; fact_3 = (s.requires.fact_3, sym c.is_cut.ensures ∙ c.if-is_cut.false); fact_4 = row_is c; fact_5 = s.requires.fact_5; }
+    let s = c in record { fact_1 = s.requires.fact_1; fact_2 = s.requires.fact_2; fact_3 = (s.requires.fact_3, sym c.is_cut.ensures ∙ c.if-is_cut.false); fact_4 = row_is c; fact_5 = s.requires.fact_5 }
 
 pub put_kept-requires : goal.put_kept-requires
 put_kept-requires c =
@@ -51,7 +51,7 @@ put_kept-requires c =
     c.dimension-dim.ensures ∙ ap head_dim c.requires.fact_1 ∙ head-dim c.args.file.now in
     let small : c.dimension-dim.result < 4 =
     omega (arith, dimension-is, dim-below c.args.file.now) in
-    let s = c in record { fact_1 = omega (arith, small); fact_2 = omega (arith, s.requires.fact_5.few, s.requires.fact_3); fact_3 = s.requires.fact_4; }
+    let s = c in record { fact_1 = omega (arith, small); fact_2 = omega (arith, s.requires.fact_5.few, s.requires.fact_3); fact_3 = s.requires.fact_4 }
 
 pub returns : goal.returns
 returns c =
@@ -60,4 +60,4 @@ returns c =
     let front : take (file_dim c.args.file.now + 1) (numbers c.in_file-v.result) ≡ file_cell c.args.file.now c.args.c =
     rw c.in_file-v.ensures (cell-front c.args.file.now c.args.c _) in
     let l = c.look-why in
-    let p = c.put_kept.ensures in record { why = l.ensures.why; rows = l.ensures.rows; vertices = rw (dimension-is, front) at p.vertices; length = p.length; }
+    let p = c.put_kept.ensures in record { why = l.ensures.why; rows = l.ensures.rows; vertices = rw (dimension-is, front) at p.vertices; length = p.length }

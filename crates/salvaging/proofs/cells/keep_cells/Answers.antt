@@ -19,7 +19,7 @@ keep_cell-why-requires c =
     let below : c.loop-c.c < 4096 =
     omega (arith, c.loop-c-test.true, count-is, c.requires.fact_3) in
     let s = c in
-    let t = c.loop-c in record { fact_1 = s.requires.fact_1; fact_2 = s.requires.fact_2; fact_3 = below; fact_4 = t.invariant.2.long; fact_5 = t.invariant.1; }
+    let t = c.loop-c in record { fact_1 = s.requires.fact_1; fact_2 = s.requires.fact_2; fact_3 = below; fact_4 = t.invariant.2.long; fact_5 = t.invariant.1 }
 
 pub overflow_cast-whys : goal.overflow_cast-whys
 overflow_cast-whys c =
@@ -85,4 +85,4 @@ returns c =
     let s = c in
     let t = c.loop-c in
     let e : t.c ≡ file_cells s.args.file.now = omega (arith, t.invariant.0, c.loop-c-test.false, count-is) in
-    let k = t.invariant.2 in record { number = t.invariant.1.number ∙ rw e; vertices = k.front ∙ rw e; whys = (λ i l. k.told i (rw e l)); lengths = (k.long, k.places); }
+    let k = t.invariant.2 in record { number = t.invariant.1.number ∙ rw e; vertices = k.front ∙ rw e; whys = (λ i l. k.told i (rw e l)); lengths = (k.long, k.places) }

@@ -43,7 +43,7 @@ meet-requires c =
     let q = c in
     let p = q.requires.fact_5 in
     let l : q.args.k < 4096 = omega (arith, p.few, q.requires.fact_3.0) in
-    let e : length q.put_cell.new.words ≡ 16384 = q.put_cell.ensures.words_after in record { fact_1 = omega arith; fact_2 = l; fact_3 = chains-put p q.put_cell.new.words e q.put_cell.ensures.words_unchanged (own_row); }
+    let e : length q.put_cell.new.words ≡ 16384 = q.put_cell.ensures.words_after in record { fact_1 = omega arith; fact_2 = l; fact_3 = chains-put p q.put_cell.new.words e q.put_cell.ensures.words_unchanged (own_row) }
 
 pub returns-then-meet : goal.returns-then-meet
 unfolding four_of
@@ -62,7 +62,7 @@ returns-then-meet c =
     let q = c in
     let p = q.requires.fact_5 in
     let m = c.meet in
-    let e : why q.args.file.now q.args.c ≡ 23 = why-is ∙ rw (sym (found) ∙ sym m.ensures.value ∙ c.if-meet.true) in record { why = sym e; rows = looked-left p q.put_cell.new.words q.put_cell.ensures.words_after q.put_cell.ensures.words_unchanged (own_row) _ _ (λ z. omega (arith, e)) (m.ensures.chains c.if-meet.true); }
+    let e : why q.args.file.now q.args.c ≡ 23 = why-is ∙ rw (sym (found) ∙ sym m.ensures.value ∙ c.if-meet.true) in record { why = sym e; rows = looked-left p q.put_cell.new.words q.put_cell.ensures.words_after q.put_cell.ensures.words_unchanged (own_row) _ _ (λ z. omega (arith, e)) (m.ensures.chains c.if-meet.true) }
 
 pub returns : goal.returns
 unfolding four_of
@@ -81,4 +81,4 @@ returns c =
     let q = c in
     let p = q.requires.fact_5 in
     let m = c.meet in
-    let e : why q.args.file.now q.args.c ≡ 0 = why-is ∙ rw (sym (found) ∙ sym m.ensures.value ∙ c.if-meet.false) in record { why = sym e; rows = looked-more p q.put_cell.new.words q.put_cell.ensures.words_after q.put_cell.ensures.words_unchanged (own_row) _ _ e (m.ensures.chains_2 c.if-meet.false); }
+    let e : why q.args.file.now q.args.c ≡ 0 = why-is ∙ rw (sym (found) ∙ sym m.ensures.value ∙ c.if-meet.false) in record { why = sym e; rows = looked-more p q.put_cell.new.words q.put_cell.ensures.words_after q.put_cell.ensures.words_unchanged (own_row) _ _ e (m.ensures.chains_2 c.if-meet.false) }

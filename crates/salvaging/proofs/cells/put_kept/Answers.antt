@@ -19,9 +19,9 @@ room n k l m = omega (arith, mul-le-mul {n₁ = n} {m₁ = k + 1} {n₂ = 4} {m�
 
 pub returns-then-why-ne0 : goal.returns-then-why-ne0
 returns-then-why-ne0 c = record {
-      vertices = rw (ne_eqb c.args.why 0 c.if-why-ne0.true) (sym (append-nil _));
-      length = c.requires.fact_3;
-    }
+  vertices = rw (ne_eqb c.args.why 0 c.if-why-ne0.true) (sym (append-nil _));
+  length = c.requires.fact_3;
+}
 
 pub overflow_mul-at : goal.overflow_mul-at
 overflow_mul-at c = let s = c in omega (arith, room s.args.n s.args.k s.requires.fact_1 s.requires.fact_2)

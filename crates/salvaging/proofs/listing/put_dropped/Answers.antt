@@ -10,9 +10,9 @@ use Rattle.salvaging.proofs.listing.put_dropped.Goals as goal
 pub returns-then-why-eq0 : goal.returns-then-why-eq0
 unfolding pair_of
 returns-then-why-eq0 c = let e = c.if-why-eq0.true in record {
-      place = rw e (omega arith);
-      list = rw e (refl);
-    }
+  place = rw e (omega arith);
+  list = rw e (refl);
+}
 
 pub bounds-list-at-2 : goal.bounds-list-at-2
 bounds-list-at-2 c = rw length-set (omega (arith, c.requires))
@@ -20,6 +20,6 @@ bounds-list-at-2 c = rw length-set (omega (arith, c.requires))
 pub returns : goal.returns
 unfolding pair_of
 returns c = record {
-      place = rw (ne_eqb c.args.why 0 c.if-why-eq0.false);
-      list = rw (ne_eqb c.args.why 0 c.if-why-eq0.false, add-one c.args.at) (refl);
-    }
+  place = rw (ne_eqb c.args.why 0 c.if-why-eq0.false);
+  list = rw (ne_eqb c.args.why 0 c.if-why-eq0.false, add-one c.args.at) (refl);
+}
