@@ -1,7 +1,6 @@
 -- The plain engine on a book as in demand 3: the mesh of the book's cells is the last accepted one, so its counts and its answers are those of the relations held. On any right book it goes by the cells alone.
 use mathlib.Core.Path.{◌≡◌, refl, sym, ap, ◌∙◌}
 use mathlib.Core.Bool.{Bool, true, false, cond, ◌||◌}
-use mathlib.Core.List.{List}
 use Prim.Native.Nat.{ℕ, ◌≤◌, ◌<◌}
 use lib.Dec.{eqb, ltb, leb}
 use Rattle.rules.specs.Lists.{has}
@@ -9,7 +8,6 @@ use Rattle.rules.specs.Book.{dim, key, named, held}
 use Rattle.rules.specs.Calls.{first_broken, find_number}
 use Rattle.rules.specs.Truth.{Mesh, number}
 use Rattle.rules.specs.Plain.{mesh_in, plain_rules, plain_number, plain_yes}
-use Rattle.rules.specs.Sequence.{Reached}
 use Rattle.promises.specs.Plan.{row_plan, find_plan, plain_plan}
 use Rattle.promises.specs.Plain.{SameMesh, PlainCounts, BookCounts, PlainAgrees, PlainTrue, PlainFinds, CellsAlone}
 use Rattle.rules.proofs.Accepted.{plains, plain-accepted, rowed, finds}

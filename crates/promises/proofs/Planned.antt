@@ -12,7 +12,7 @@ use lib.Ieee.Scale.{finite}
 use borrow.Author.Tests.{ltb-false, leb-false, le-leb, eqb-true}
 use Rattle.rules.specs.Lists.{all_of, filled}
 use Rattle.rules.specs.Book.{count, key, named, held, offset, total, needs, frame_right, rows_right}
-use Rattle.rules.specs.Calls.{rule, first_broken, added, asked, make_rules, make_number, ask_rules, ask_number, ask_words, row_rules, row_number, find_number, write_rules, write_number, euler_rules, euler_number, held_rules, held_number, drop_rules, drop_number}
+use Rattle.rules.specs.Calls.{first_broken, added, asked, make_rules, make_number, ask_rules, ask_number, ask_words, row_rules, row_number, find_number, write_rules, write_number, euler_rules, euler_number, held_rules, held_number, drop_rules, drop_number}
 use Rattle.rules.specs.Phases.{counted}
 use Rattle.rules.specs.Closures.{lengths_right, close_rules, close_number}
 use Rattle.rules.specs.Boxes.{coordinate_rules, box_rules, box_number, whole_rules, whole_number}

@@ -1,6 +1,5 @@
 -- The invariant: at is where the relation of key j begins. From key 32 on none is held, so the place stays.
 use mathlib.Core.Path.{◌≡◌, refl, sym, ap, ◌∙◌}
-use Prim.Native.Nat.{◌-◌}
 use native.Mathlib.Omega.{arith}
 use Rattle.rules.specs.Book.{place}
 use Rattle.rules.proofs.AnyWords.{place_still}

@@ -1,6 +1,6 @@
 -- The invariant: the words from j on are mixed.
 use mathlib.Core.Path.{◌≡◌}
-use Prim.Native.Nat.{◌≤◌, ◌-◌}
+use Prim.Native.Nat.{◌≤◌}
 use lib.ListN.{length, drop}
 use Rattle.repeats.specs.Rows.{mixed}
 use Rattle.repeats.proofs.bucket.Given as goal

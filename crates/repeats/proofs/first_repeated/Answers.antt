@@ -1,7 +1,5 @@
 -- The invariant: the rows passed are in the chains, and none of them equals an earlier one.
 use mathlib.Core.Path.{◌≡◌, sym, ◌∙◌}
-use mathlib.Core.Bool.{false}
-use Prim.Native.Nat.{◌-◌}
 use native.Mathlib.Omega.{arith}
 use borrow.Author.Count.{below_more}
 use Rattle.rules.specs.Lists.{repeated}

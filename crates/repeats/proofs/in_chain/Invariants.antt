@@ -1,5 +1,4 @@
 -- The invariant: the row is among those below the walk's place exactly where it is among all.
-use Prim.Native.Nat.{◌-◌}
 use Rattle.repeats.specs.Rows.{row_at, bucket_of, bucket_at}
 use Rattle.repeats.proofs.Walked.{Walking}
 use Rattle.repeats.proofs.in_chain.Given as goal

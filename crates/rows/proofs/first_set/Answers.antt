@@ -1,7 +1,5 @@
 -- The invariant: the words passed are 0.
 use mathlib.Core.Path.{sym}
-use mathlib.Core.Bool.{false}
-use Prim.Native.Nat.{◌-◌}
 use native.Mathlib.Omega.{arith}
 use mathlib.Core.Bool.{not}
 use lib.Dec.{eqb}

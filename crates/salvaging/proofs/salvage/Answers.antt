@@ -1,6 +1,5 @@
 -- The head's four faults are refusals; behind them the file is salvaged.
 use mathlib.Core.Path.{◌≡◌, refl, sym, ap, ◌∙◌}
-use mathlib.Core.Logic.{◌⊎◌, inl, inr}
 use Prim.Native.Nat.{ℕ, zero, suc, ◌<◌}
 use native.Mathlib.Omega.{arith}
 use Rattle.rules.specs.Calls.{file_number}

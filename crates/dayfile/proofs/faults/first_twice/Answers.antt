@@ -1,7 +1,7 @@
 -- The invariants: the lowest cell with the fault is c after it among the cells from c on; each vertex before i is apart from those after it; vertex i is apart from those before j.
 use mathlib.Core.Path.{◌≡◌, sym, ap, ◌∙◌}
 use mathlib.Core.Bool.{true, false}
-use Prim.Native.Nat.{◌+◌, ◌-◌}
+use Prim.Native.Nat.{◌+◌}
 use native.Mathlib.Nat.{zero-add}
 use native.Mathlib.Omega.{arith}
 use lib.ListN.{length, get_or, take}

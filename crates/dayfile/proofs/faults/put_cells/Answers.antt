@@ -1,6 +1,5 @@
 -- The invariant: the cells passed are put down.
 use mathlib.Core.Path.{◌≡◌, ◌∙◌}
-use Prim.Native.Nat.{◌-◌}
 use native.Mathlib.Omega.{arith}
 use Rattle.rules.specs.File.{head_cells}
 use Rattle.dayfile.specs.Words.{four_words}

@@ -1,6 +1,5 @@
 -- The invariant: the bytes now, with the vertices from k on still to come, are the bytes at the start with all of them; past the end nothing is written.
 use mathlib.Core.Path.{refl, sym, ap, ◌∙◌}
-use Prim.Native.Nat.{◌-◌}
 use native.Mathlib.Omega.{arith}
 use lib.ListN.{length, get_or}
 use Rattle.rules.proofs.BitsWritten.{length-with, bytes-with}

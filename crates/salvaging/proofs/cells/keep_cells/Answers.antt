@@ -1,6 +1,6 @@
 -- The invariant: the cells passed are kept or told why not, and those kept are looked among.
 use mathlib.Core.Path.{◌≡◌, ap, ◌∙◌}
-use Prim.Native.Nat.{◌-◌, ◌<◌}
+use Prim.Native.Nat.{◌<◌}
 use native.Mathlib.Omega.{arith}
 use Rattle.rules.specs.File.{file_cells, head_cells}
 use Rattle.rules.specs.Salvage.{kept}

@@ -1,7 +1,7 @@
 -- The invariant: the pairs of the cells passed stand at the front, and the rest as it was.
 use mathlib.Core.Path.{◌≡◌}
 use mathlib.Core.List.{◌++◌}
-use Prim.Native.Nat.{◌+◌, ◌-◌, ◌≤◌}
+use Prim.Native.Nat.{◌-◌, ◌≤◌}
 use lib.ListN.{length, drop}
 use Rattle.salvaging.specs.Listed.{pairs_in}
 use Rattle.salvaging.proofs.listing.list_dropped.Given as goal
