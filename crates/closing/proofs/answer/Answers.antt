@@ -120,8 +120,6 @@ returns c =
     on c.held.ensures c.if-not-held.false in
     let faces-held : let a = c.args in held a.book.now 8 ≡ true =
     on c.held-2.ensures c.if-not-held-2.false in
-    let sized : let a = c.args in lengths_right a.book.now a.counts.now a.closures a.steps a.bytes ≡ true =
-    on c.lengths_right-sized.ensures c.if-not-sized.false in
     let h = c in
     let r = h in
-    let a = r.args in let all = bare a.book.now 0 refl (accepted a.book.now a.counts.now a.closures a.steps a.bytes (framed) (rowed) (over-one) (edges-held) (faces-held) (sized) (on c.all_lent-lent.ensures c.if-not-lent.false)) in record { number = all.0; place = all.1 }
+    let a = r.args in let all = bare a.book.now 0 refl (accepted a.book.now a.counts.now a.closures a.steps a.bytes (framed) (rowed) (over-one) (edges-held) (faces-held) (on c.lengths_right-sized.ensures c.if-not-sized.false) (on c.all_lent-lent.ensures c.if-not-lent.false)) in record { number = all.0; place = all.1 }

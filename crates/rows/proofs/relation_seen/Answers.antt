@@ -36,7 +36,7 @@ cell_again-requires c =
     let top : let a = c.args in a.k ≡ key (dim a.book.now) 0 =
     c.if-k-key.false ∙ key-is in
     let late : let a = c.args in count a.book.now (a.k / 4) < c.rows_seen-seen.result =
-    omega (arith, c.if-seen-n.false, c.count-n.ensures) in
+    omega (arith, c.count-n.ensures) in
     let s = c in record { fact_1 = record { stands = s.requires.fact_1; fine = late-fine s.args.book.now s.args.k _ (late) c.rows_seen-seen.ensures }; fact_2 = (top, (s.requires.fact_2, c.count-n.ensures)) }
 
 pub returns : goal.returns
@@ -46,7 +46,7 @@ returns c =
     let top : let a = c.args in a.k ≡ key (dim a.book.now) 0 =
     c.if-k-key.false ∙ key-is in
     let late : let a = c.args in count a.book.now (a.k / 4) < c.rows_seen-seen.result =
-    omega (arith, c.if-seen-n.false, c.count-n.ensures) in
+    omega (arith, c.count-n.ensures) in
     let e = c in
     let s = e in
     let m = e.rows_seen-seen in

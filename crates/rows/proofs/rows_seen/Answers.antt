@@ -73,11 +73,11 @@ returns-then-p-n c =
     at_offset l (rw e (least-passes (offset_bad a.book.now a.k) (n + 1) m)) (λ q x. least-before (offset_bad a.book.now a.k) (n + 1) q (omega (arith, e)))
 
 -- no offset is bad
-fine : (c : goal.After-bad_index) → let a = (c.before).args in Offsets a.book.now a.k
-fine c q x =
+fine : (c : goal.After-bad_index) → let a = (c.before).args in count a.book.now (a.k / 4) < c.bad_offset-p.result → Offsets a.book.now a.k
+fine c late q x =
     let g = c in
     let a = g.args in
-    least-before (offset_bad a.book.now a.k) (count a.book.now (a.k / 4) + 1) q (omega (arith, c.bad_offset-p.ensures, c.if-p-n.false, g.count-n.ensures))
+    least-before (offset_bad a.book.now a.k) (count a.book.now (a.k / 4) + 1) q (omega (arith, c.bad_offset-p.ensures, late))
 
 -- row i is one of the relation's, and does not ascend below N_e
 below : (c : goal.After-bad_index) → let g = c in let a = g.args in g.rows_passed-i.result < count a.book.now (a.k / 4)
@@ -85,11 +85,11 @@ below c =
     let g = c in
     omega (arith, c.if-i-n.false, g.rows_passed-i.ensures.most, g.count-n.ensures)
 
-wrong : (c : goal.After-bad_index) → let g = c in let a = g.args in let row = row_of a.book.now a.k g.rows_passed-i.result in
+wrong : (c : goal.After-bad_index) → let g = c in let a = g.args in let row = row_of a.book.now a.k g.rows_passed-i.result in count a.book.now (a.k / 4) < c.bad_offset-p.result →
     (ascends row && all_of (λ (j : ℕ). ltb j (count a.book.now (a.k % 4))) row) ≡ false
-wrong c =
+wrong c late =
     let g = c in
-    elim (g.rows_passed-i.ensures.stopped (below c)) [ inl b ↦ absurd (false≢true (sym (fine c (g.rows_passed-i.result + 1) (omega (arith, below c))) ∙ b)) | inr w ↦ w ]
+    elim (g.rows_passed-i.ensures.stopped (below c)) [ inl b ↦ absurd (false≢true (sym (fine c late (g.rows_passed-i.result + 1) (omega (arith, below c))) ∙ b)) | inr w ↦ w ]
 
 pub overflow_add-result-3 : goal.overflow_add-result-3
 overflow_add-result-3 c = omega (arith, c.word-first.type_inv, c.count-n.type_inv)
@@ -106,12 +106,12 @@ found : (c : goal.After-bad_index) → let g = c in let a = g.args in
     c.bad_index.result ≡ first_at (word_bad (count a.book.now (a.k % 4)) (row_of a.book.now a.k g.rows_passed-i.result)) (up_to (length (row_of a.book.now a.k g.rows_passed-i.result)))
 found c = c.bad_index.ensures ∙ ap₂ (λ (r : List ℕ) (b : ℕ). first_at (word_bad b r) (up_to (length r))) c.row.ensures.words c.count.ensures
 
-within : (c : goal.After-bad_index) → let g = c in let a = g.args in c.bad_index.result < length (row_of a.book.now a.k g.rows_passed-i.result)
-within c =
+within : (c : goal.After-bad_index) → let g = c in let a = g.args in count a.book.now (a.k / 4) < c.bad_offset-p.result → c.bad_index.result < length (row_of a.book.now a.k g.rows_passed-i.result)
+within c late =
     let e = c in
     let g = e in
     let a = g.args in
-    rw (found c) (some-bad (row_of a.book.now a.k g.rows_passed-i.result) (count a.book.now (a.k % 4)) (wrong e))
+    rw (found c) (some-bad (row_of a.book.now a.k g.rows_passed-i.result) (count a.book.now (a.k % 4)) (wrong e late))
 
 pub overflow_add-result-4 : goal.overflow_add-result-4
 unfolding offset
@@ -120,7 +120,7 @@ overflow_add-result-4 c =
     let g = e in
     let s = g in
     let i = g.rows_passed-i.result in
-    omega (arith, within c, row-short s.args.book.now s.args.k i, (g.type_inv.book (place s.args.book.now s.args.k + (i + 1))).fits, e.word-first.type_inv, g.count-n.type_inv)
+    omega (arith, within c (omega (arith, g.count-n.ensures)), row-short s.args.book.now s.args.k i, (g.type_inv.book (place s.args.book.now s.args.k + (i + 1))).fits, e.word-first.type_inv, g.count-n.type_inv)
 
 pub returns : goal.returns
 returns c =
@@ -131,10 +131,11 @@ returns c =
     let g = e in
     let a = g.args in
     let row = row_of a.book.now a.k g.rows_passed-i.result in
-    let m = within c in
+    let late : count a.book.now (a.k / 4) < c.bad_offset-p.result = omega (arith, g.count-n.ensures) in
+    let m = within c late in
     at-index g.rows_passed-i.result c.bad_index.result
     (record {
-      fine = fine e;
+      fine = fine e late;
       row = below e;
       within = m;
       bad = rw (found c) (least-passes _ _ (rw (found c) at m));

@@ -62,7 +62,7 @@ written_is c =
     let length-is : c.length-length.result ≡ saved_length c.args.file.now =
     c.length-length.ensures ∙ ap head_length (saved-is) ∙ saved-head-length c.args.file.now c.requires in
     let room : saved_length c.args.file.now ≤ length c.args.out.now =
-    ltb-false _ _ (ap (ltb (length c.args.out.now)) (sym (length-is)) ∙ le-ltb _ _ c.if-buffer_short.false) in
+    omega (arith, length-is) in
     let dimension-is : c.dimension.result ≡ file_dim c.args.file.now =
     c.dimension.ensures ∙ ap head_dim (head-is) ∙ head-dim c.args.file.now in
     let s = c in
@@ -107,7 +107,7 @@ returns-then-list_short c =
     let length-is : c.length-length.result ≡ saved_length c.args.file.now =
     c.length-length.ensures ∙ ap head_length (saved-is) ∙ saved-head-length c.args.file.now c.requires in
     let room : saved_length c.args.file.now ≤ length c.args.out.now =
-    ltb-false _ _ (ap (ltb (length c.args.out.now)) (sym (length-is)) ∙ le-ltb _ _ c.if-buffer_short.false) in
+    omega (arith, length-is) in
     let s = c in
     let a = s.args in
     let e : ltb (length a.dropped.now) (2 * file_cells a.file.now) ≡ true = ap (λ (n : ℕ). ltb (length a.dropped.now) (2 * n)) (sym (count-is)) ∙ lt-ltb _ _ c.if-list_short.true in let all = refused a.file.now a.out.now a.dropped.now answers.ListLength 21 refl refl (λ z. omega arith)
@@ -185,7 +185,7 @@ returns c =
     let length-is : c.length-length.result ≡ saved_length c.args.file.now =
     c.length-length.ensures ∙ ap head_length (saved-is) ∙ saved-head-length c.args.file.now c.requires in
     let room : saved_length c.args.file.now ≤ length c.args.out.now =
-    ltb-false _ _ (ap (ltb (length c.args.out.now)) (sym (length-is)) ∙ le-ltb _ _ c.if-buffer_short.false) in
+    omega (arith, length-is) in
     let places : 2 * file_cells c.args.file.now ≤ length c.args.dropped.now =
     ltb-false _ _ (ap (λ (n : ℕ). ltb (length c.args.dropped.now) (2 * n)) (sym (count-is)) ∙ le-ltb _ _ c.if-list_short.false) in
     let s = c in

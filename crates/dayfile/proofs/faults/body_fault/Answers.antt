@@ -75,7 +75,7 @@ returns-then-twice-cell_count c =
     let out-is : c.first_out-out.result.0 ≡ first_at (out_of (file_vertices (c.args.file.now))) (cells_in_file (c.args.file.now)) =
     let p = c in c.first_out-out.ensures ∙ out-put (c.args.file.now) _ p.put_cells.new.words _ (head-is) p.put_cells.ensures in
     let none_out : file_cells (c.args.file.now) ≤ first_at (out_of (file_vertices (c.args.file.now))) (cells_in_file (c.args.file.now)) =
-    omega (arith, cells_is, out-is, c.if-out-cell_count.false) in
+    omega (arith, cells_is, out-is) in
     let twice-is : c.first_twice-twice.result.0 ≡ first_at twice (cells_in_file (c.args.file.now)) =
     let p = c in c.first_twice-twice.ensures ∙ twice-put (c.args.file.now) _ p.put_cells.new.words _ (head-is) p.put_cells.ensures in
     let q = c in
@@ -110,11 +110,11 @@ returns-then-again-cell_count c =
     let out-is : c.first_out-out.result.0 ≡ first_at (out_of (file_vertices (c.args.file.now))) (cells_in_file (c.args.file.now)) =
     let p = c in c.first_out-out.ensures ∙ out-put (c.args.file.now) _ p.put_cells.new.words _ (head-is) p.put_cells.ensures in
     let none_out : file_cells (c.args.file.now) ≤ first_at (out_of (file_vertices (c.args.file.now))) (cells_in_file (c.args.file.now)) =
-    omega (arith, cells_is, out-is, c.if-out-cell_count.false) in
+    omega (arith, cells_is, out-is) in
     let twice-is : c.first_twice-twice.result.0 ≡ first_at twice (cells_in_file (c.args.file.now)) =
     let p = c in c.first_twice-twice.ensures ∙ twice-put (c.args.file.now) _ p.put_cells.new.words _ (head-is) p.put_cells.ensures in
     let none-twice : file_cells (c.args.file.now) ≤ first_at twice (cells_in_file (c.args.file.now)) =
-    omega (arith, cells_is, twice-is, c.if-twice-cell_count.false) in
+    omega (arith, cells_is, twice-is) in
     let again-is : c.first_again-again.result.0 ≡ first_repeated (map sorted (cells_in_file (c.args.file.now))) =
     let p = c in c.first_again-again.ensures ∙ again-put (c.args.file.now) _ p.put_cells.new.words _ (head-is) p.put_cells.ensures in
     let q = c in
@@ -146,15 +146,15 @@ returns-then-bits_after c =
     let out-is : c.first_out-out.result.0 ≡ first_at (out_of (file_vertices (c.args.file.now))) (cells_in_file (c.args.file.now)) =
     let p = c in c.first_out-out.ensures ∙ out-put (c.args.file.now) _ p.put_cells.new.words _ (head-is) p.put_cells.ensures in
     let none_out : file_cells (c.args.file.now) ≤ first_at (out_of (file_vertices (c.args.file.now))) (cells_in_file (c.args.file.now)) =
-    omega (arith, cells_is, out-is, c.if-out-cell_count.false) in
+    omega (arith, cells_is, out-is) in
     let twice-is : c.first_twice-twice.result.0 ≡ first_at twice (cells_in_file (c.args.file.now)) =
     let p = c in c.first_twice-twice.ensures ∙ twice-put (c.args.file.now) _ p.put_cells.new.words _ (head-is) p.put_cells.ensures in
     let none-twice : file_cells (c.args.file.now) ≤ first_at twice (cells_in_file (c.args.file.now)) =
-    omega (arith, cells_is, twice-is, c.if-twice-cell_count.false) in
+    omega (arith, cells_is, twice-is) in
     let again-is : c.first_again-again.result.0 ≡ first_repeated (map sorted (cells_in_file (c.args.file.now))) =
     let p = c in c.first_again-again.ensures ∙ again-put (c.args.file.now) _ p.put_cells.new.words _ (head-is) p.put_cells.ensures in
     let none-again : file_cells (c.args.file.now) ≤ first_repeated (map sorted (cells_in_file (c.args.file.now))) =
-    omega (arith, cells_is, again-is, c.if-again-cell_count.false) in
+    omega (arith, cells_is, again-is) in
     let q = c in
     let s = q in
     let p = sound in record { fault = rw (bits-after (c.args.file.now) p (none_out) (none-twice) (none-again) (sym c.bits_after.ensures ∙ c.if-bits_after.true)); words = laid }
@@ -173,15 +173,15 @@ returns c =
     let out-is : c.first_out-out.result.0 ≡ first_at (out_of (file_vertices (c.args.file.now))) (cells_in_file (c.args.file.now)) =
     let p = c in c.first_out-out.ensures ∙ out-put (c.args.file.now) _ p.put_cells.new.words _ (head-is) p.put_cells.ensures in
     let none_out : file_cells (c.args.file.now) ≤ first_at (out_of (file_vertices (c.args.file.now))) (cells_in_file (c.args.file.now)) =
-    omega (arith, cells_is, out-is, c.if-out-cell_count.false) in
+    omega (arith, cells_is, out-is) in
     let twice-is : c.first_twice-twice.result.0 ≡ first_at twice (cells_in_file (c.args.file.now)) =
     let p = c in c.first_twice-twice.ensures ∙ twice-put (c.args.file.now) _ p.put_cells.new.words _ (head-is) p.put_cells.ensures in
     let none-twice : file_cells (c.args.file.now) ≤ first_at twice (cells_in_file (c.args.file.now)) =
-    omega (arith, cells_is, twice-is, c.if-twice-cell_count.false) in
+    omega (arith, cells_is, twice-is) in
     let again-is : c.first_again-again.result.0 ≡ first_repeated (map sorted (cells_in_file (c.args.file.now))) =
     let p = c in c.first_again-again.ensures ∙ again-put (c.args.file.now) _ p.put_cells.new.words _ (head-is) p.put_cells.ensures in
     let none-again : file_cells (c.args.file.now) ≤ first_repeated (map sorted (cells_in_file (c.args.file.now))) =
-    omega (arith, cells_is, again-is, c.if-again-cell_count.false) in
+    omega (arith, cells_is, again-is) in
     let q = c in
     let s = q in
     let p = sound in record { fault = rw (no-fault (c.args.file.now) p (none_out) (none-twice) (none-again) (sym c.bits_after.ensures ∙ c.if-bits_after.false)); words = laid }

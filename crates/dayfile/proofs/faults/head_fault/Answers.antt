@@ -64,7 +64,7 @@ returns-then-cell_count-gt4096 c =
     let vertices-is : c.vertices-vertex_count.result ≡ file_vertices (c.args.file.now) =
     c.vertices-vertex_count.ensures ∙ ap head_vertices (head-is) ∙ head-vertices (c.args.file.now) in
     let few-vertices : file_vertices (c.args.file.now) ≤ 8192 =
-    rw (vertices-is) at c.if-vertex_count-gt8192.false in
+    omega (arith, vertices-is) in
     let s = c in
     rw (head_at _ 4 (omega arith) (many-cells (c.args.file.now) (long) (some-dimension) (few-vertices) (rw (cells_is) at c.if-cell_count-gt4096.true)))
 
@@ -84,7 +84,7 @@ returns-then-spare_bits-gt0 c =
     let vertices-is : c.vertices-vertex_count.result ≡ file_vertices (c.args.file.now) =
     c.vertices-vertex_count.ensures ∙ ap head_vertices (head-is) ∙ head-vertices (c.args.file.now) in
     let few-vertices : file_vertices (c.args.file.now) ≤ 8192 =
-    rw (vertices-is) at c.if-vertex_count-gt8192.false in
+    omega (arith, vertices-is) in
     let cells_is : c.cells-cell_count.result ≡ file_cells (c.args.file.now) =
     c.cells-cell_count.ensures ∙ ap head_cells (head-is) ∙ head-cells (c.args.file.now) in
     let few-cells : file_cells (c.args.file.now) ≤ 4096 =
@@ -106,7 +106,7 @@ returns-then-file-length c =
     let vertices-is : c.vertices-vertex_count.result ≡ file_vertices (c.args.file.now) =
     c.vertices-vertex_count.ensures ∙ ap head_vertices (head-is) ∙ head-vertices (c.args.file.now) in
     let few-vertices : file_vertices (c.args.file.now) ≤ 8192 =
-    rw (vertices-is) at c.if-vertex_count-gt8192.false in
+    omega (arith, vertices-is) in
     let cells_is : c.cells-cell_count.result ≡ file_cells (c.args.file.now) =
     c.cells-cell_count.ensures ∙ ap head_cells (head-is) ∙ head-cells (c.args.file.now) in
     let few-cells : file_cells (c.args.file.now) ≤ 4096 =
@@ -134,7 +134,7 @@ returns c =
     let vertices-is : c.vertices-vertex_count.result ≡ file_vertices (c.args.file.now) =
     c.vertices-vertex_count.ensures ∙ ap head_vertices (head-is) ∙ head-vertices (c.args.file.now) in
     let few-vertices : file_vertices (c.args.file.now) ≤ 8192 =
-    rw (vertices-is) at c.if-vertex_count-gt8192.false in
+    omega (arith, vertices-is) in
     let cells_is : c.cells-cell_count.result ≡ file_cells (c.args.file.now) =
     c.cells-cell_count.ensures ∙ ap head_cells (head-is) ∙ head-cells (c.args.file.now) in
     let few-cells : file_cells (c.args.file.now) ≤ 4096 =

@@ -24,17 +24,17 @@ unfolding tested_answer why_answer by_entities
 returns-then-v-count c =
     let ws = c.args.book.now in
     ap (λ (x : ℕ). 28 ∷ 2 ∷ x ∷ []) c.first_unused-v.ensures
-    ∙ found-off 2 (count ws 0) (unused ws) _ _ (omega (arith, c.first_unused-v.ensures, c.count.ensures, c.if-v-count.true))
+    ∙ found-off 2 (count ws 0) (unused ws) _ _ (omega (arith, c.first_unused-v.ensures))
 
 pub returns-then-k-count : goal.returns-then-k-count
 unfolding tested_answer why_answer by_entities
 returns-then-k-count c =
     let used : let ws = c.args.book.now in any_of (unused ws) (up_to (count ws 0)) ≡ false =
     let ws = c.args.book.now in
-    none-off (count ws 0) (unused ws) (λ l. omega (arith, c.first_unused-v.ensures, c.count.ensures, c.if-v-count.false)) in
+    none-off (count ws 0) (unused ws) (λ l. omega (arith, c.first_unused-v.ensures)) in
     let ws = c.args.book.now in
     ap (λ (x : ℕ). 28 ∷ 3 ∷ x ∷ []) c.first_branched-k.ensures
-    ∙ found-off 3 (count ws 1) (branched ws) _ _ (omega (arith, c.first_branched-k.ensures, c.count-2.ensures, c.if-k-count.true))
+    ∙ found-off 3 (count ws 1) (branched ws) _ _ (omega (arith, c.first_branched-k.ensures))
     ∙ passed-off 2 (count ws 0) (unused ws) _ _ used
 
 pub stand_of-requires : goal.stand_of-requires
@@ -45,7 +45,7 @@ pub first_unmatched-c-requires : goal.first_unmatched-c-requires
 first_unmatched-c-requires c =
     let plain : let ws = c.args.book.now in any_of (branched ws) (up_to (count ws 1)) ≡ false =
     let ws = c.args.book.now in
-    none-off (count ws 1) (branched ws) (λ l. omega (arith, c.first_branched-k.ensures, c.count-2.ensures, c.if-k-count.false)) in
+    none-off (count ws 1) (branched ws) (λ l. omega (arith, c.first_branched-k.ensures)) in
     let t = c.stand_of-cells.ensures in record { fact_1 = (c.stand_of.ensures.stands, c.stand_of.ensures.key); fact_2 = (t.stands, t.key); fact_3 = plain }
 
 pub returns-then-c-count : goal.returns-then-c-count
@@ -53,13 +53,13 @@ unfolding tested_answer why_answer by_entities
 returns-then-c-count c =
     let used : let ws = c.args.book.now in any_of (unused ws) (up_to (count ws 0)) ≡ false =
     let ws = c.args.book.now in
-    none-off (count ws 0) (unused ws) (λ l. omega (arith, c.first_unused-v.ensures, c.count.ensures, c.if-v-count.false)) in
+    none-off (count ws 0) (unused ws) (λ l. omega (arith, c.first_unused-v.ensures)) in
     let plain : let ws = c.args.book.now in any_of (branched ws) (up_to (count ws 1)) ≡ false =
     let ws = c.args.book.now in
-    none-off (count ws 1) (branched ws) (λ l. omega (arith, c.first_branched-k.ensures, c.count-2.ensures, c.if-k-count.false)) in
+    none-off (count ws 1) (branched ws) (λ l. omega (arith, c.first_branched-k.ensures)) in
     let ws = c.args.book.now in
     ap (λ (x : ℕ). 28 ∷ 4 ∷ x ∷ []) c.first_unmatched-c.ensures
-    ∙ found-off 4 (count ws 2) (unmatched ws) _ _ (omega (arith, c.first_unmatched-c.ensures, c.count-3.ensures, c.if-c-count.true))
+    ∙ found-off 4 (count ws 2) (unmatched ws) _ _ (omega (arith, c.first_unmatched-c.ensures))
     ∙ passed-off 3 (count ws 1) (branched ws) _ _ plain
     ∙ passed-off 2 (count ws 0) (unused ws) _ _ used
 
@@ -68,10 +68,10 @@ unfolding tested_answer by_entities first_broken
 returns c =
     let used : let ws = c.args.book.now in any_of (unused ws) (up_to (count ws 0)) ≡ false =
     let ws = c.args.book.now in
-    none-off (count ws 0) (unused ws) (λ l. omega (arith, c.first_unused-v.ensures, c.count.ensures, c.if-v-count.false)) in
+    none-off (count ws 0) (unused ws) (λ l. omega (arith, c.first_unused-v.ensures)) in
     let plain : let ws = c.args.book.now in any_of (branched ws) (up_to (count ws 1)) ≡ false =
     let ws = c.args.book.now in
-    none-off (count ws 1) (branched ws) (λ l. omega (arith, c.first_branched-k.ensures, c.count-2.ensures, c.if-k-count.false)) in
+    none-off (count ws 1) (branched ws) (λ l. omega (arith, c.first_branched-k.ensures)) in
     let ws = c.args.book.now in
-    let n = none-off (count ws 2) (unmatched ws) (λ l. omega (arith, c.first_unmatched-c.ensures, c.count-3.ensures, c.if-c-count.false)) in
+    let n = none-off (count ws 2) (unmatched ws) (λ l. omega (arith, c.first_unmatched-c.ensures)) in
     rw (used, plain, n)
