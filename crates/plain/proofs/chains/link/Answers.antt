@@ -1,6 +1,5 @@
 -- The invariant: the table is filled up to the place.
 use mathlib.Core.Path.{refl}
-use Prim.Native.Nat.{◌-◌}
 use Rattle.rules.proofs.Chained.{chains-empty, chains-more}
 use native.Mathlib.Omega.{arith}
 use Rattle.plain.proofs.chains.link.Goals as goal

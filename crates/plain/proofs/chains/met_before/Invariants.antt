@@ -1,5 +1,5 @@
 -- The invariant: the cells passed do not have the set.
-use Prim.Native.Nat.{◌-◌, ◌/◌}
+use Prim.Native.Nat.{◌/◌}
 use lib.ListN.{get_or, take}
 use Rattle.plain.proofs.Links.{Walking}
 use Rattle.plain.proofs.chains.met_before.Given as goal

@@ -1,7 +1,6 @@
 -- The invariant: of the members passed none has fewer uses than that at `best`.
 use mathlib.Core.Path.{◌≡◌}
-use mathlib.Core.Logic.{⊎_elim}
-use Prim.Native.Nat.{◌-◌, ◌<◌}
+use Prim.Native.Nat.{◌<◌}
 use native.Mathlib.Omega.{arith}
 use lib.ListN.{get_or}
 use Rattle.plain.proofs.Uses.{fewer, no-fewer}

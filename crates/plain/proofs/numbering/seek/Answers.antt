@@ -1,6 +1,6 @@
 -- The invariant: what is built from the cells passed is counted.
 use mathlib.Core.Path.{◌≡◌, refl}
-use Prim.Native.Nat.{◌-◌, ◌+◌}
+use Prim.Native.Nat.{◌+◌}
 use Rattle.rules.specs.Made.{built}
 use Rattle.plain.proofs.Before.{before-none}
 use Rattle.plain.proofs.Seeking.{passed, cells-found, cells-next}

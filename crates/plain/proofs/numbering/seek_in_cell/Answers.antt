@@ -1,7 +1,7 @@
 -- The invariant: the candidates passed that no cell before has are counted.
 use mathlib.Core.Path.{◌≡◌, refl, sym, ◌∙◌}
 use mathlib.Core.List.{[], Memᴰ as In}
-use Prim.Native.Nat.{ℕ, ◌≤◌, ◌<◌, ◌-◌, ◌+◌, ◌*◌, ◌/◌}
+use Prim.Native.Nat.{ℕ, ◌≤◌, ◌<◌, ◌+◌, ◌*◌, ◌/◌}
 use lib.ListN.{length, take, get_or}
 use Rattle.rules.specs.Lists.{any_of, inside, choose}
 use Rattle.rules.specs.Book.{most}

@@ -1,6 +1,6 @@
 -- The invariant: no member passed is v.
 use mathlib.Core.Path.{sym, ap, ◌∙◌}
-use Prim.Native.Nat.{ℕ, ◌-◌}
+use Prim.Native.Nat.{ℕ}
 use lib.ListN.{get_or}
 use mathlib.Core.Logic.{inl, inr}
 use Rattle.rules.proofs.Compared.{same_or_not}

@@ -1,7 +1,5 @@
 -- The invariant: every member passed is one of b.
 use mathlib.Core.Path.{◌≡◌, sym, ◌∙◌}
-use mathlib.Core.Bool.{true}
-use Prim.Native.Nat.{◌-◌}
 use lib.ListN.{take}
 use Rattle.rules.specs.Lists.{has, inside}
 use Rattle.rules.proofs.Tests.{and-of}

@@ -1,7 +1,5 @@
 -- The invariant: no member passed is one of b.
 use mathlib.Core.Path.{◌≡◌, sym, ◌∙◌}
-use mathlib.Core.Bool.{false}
-use Prim.Native.Nat.{◌-◌}
 use lib.ListN.{take}
 use Rattle.rules.specs.Lists.{has, meets}
 use Rattle.plain.proofs.Taken.{any_next, any_here, any-nothing}

@@ -1,6 +1,6 @@
 -- The invariant: the first k words are the cell's.
 use mathlib.Core.Path.{◌≡◌, refl}
-use Prim.Native.Nat.{◌-◌, ◌*◌}
+use Prim.Native.Nat.{◌*◌}
 use lib.ListN.{length-set}
 use Rattle.plain.specs.Cells.{cell_at}
 use Rattle.plain.proofs.Taken.{copied_more}

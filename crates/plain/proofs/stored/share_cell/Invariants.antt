@@ -1,7 +1,7 @@
 -- The invariant: what is not yet looked at decides.
 use mathlib.Core.Path.{◌≡◌}
 use mathlib.Core.Bool.{◌&&◌}
-use Prim.Native.Nat.{◌≤◌, ◌-◌}
+use Prim.Native.Nat.{◌≤◌}
 use Rattle.rules.specs.Lists.{any_of, has}
 use Rattle.plain.specs.Cells.{cells_before}
 use Rattle.plain.proofs.stored.share_cell.Given as goal
