@@ -15,7 +15,7 @@ unfolding all_number all_words
 returns-then-number-ne0 c =
     let turn = c.loop-k in
     let one = c.ask_key-number.ensures in
-    let top = c.dim-top.ensures in record { number = rw (← top) (one.number ∙ refused-number turn.invariant.1.1 (omega arith) (λ e. c.if-number-ne0.true (one.number ∙ e))); words = rw (← top) (one.words ∙ refused-words turn.invariant.1.1 (omega arith) (λ e. c.if-number-ne0.true (one.number ∙ e))); }
+    let top = c.dim-top.ensures in record { number = rw (← top) (one.number ∙ refused-number turn.invariant.1.1 (omega arith) (λ e. c.if-number-ne0.true (one.number ∙ e))); words = rw (← top) (one.words ∙ refused-words turn.invariant.1.1 (omega arith) (λ e. c.if-number-ne0.true (one.number ∙ e))) }
 
 pub loop-k-preserved : goal.loop-k-preserved
 loop-k-preserved c =
@@ -29,4 +29,4 @@ shape_of-book c = c.loop-k.invariant.1.0
 pub returns : goal.returns
 unfolding all_number all_words
 returns c =
-    let top = c.dim-top.ensures in record { number = rw (← top) (asked-number c.loop-k.invariant.1.1 (omega arith)); words = rw (← top) (asked-words c.loop-k.invariant.1.1 (omega arith)); }
+    let top = c.dim-top.ensures in record { number = rw (← top) (asked-number c.loop-k.invariant.1.1 (omega arith)); words = rw (← top) (asked-words c.loop-k.invariant.1.1 (omega arith)) }

@@ -33,27 +33,27 @@ returns-in-Accepted c =
     let r = c in
     let k = r in
     let a = k.args in
-    let e = k.key-k.ensures in record { number = sym (accepted); key = refl; position = refl; start = c.place_of_row.ensures ∙ ap (λ (j : ℕ). row_start a.book.now j a.i) e; count = ap length (r.row-row.ensures.words ∙ ap (λ (j : ℕ). row_of a.book.now j a.i) e); }
+    let e = k.key-k.ensures in record { number = sym (accepted); key = refl; position = refl; start = c.place_of_row.ensures ∙ ap (λ (j : ℕ). row_start a.book.now j a.i) e; count = ap length (r.row-row.ensures.words ∙ ap (λ (j : ℕ). row_of a.book.now j a.i) e) }
 
 pub returns-in-FrameBroken : goal.returns-in-FrameBroken
 unfolding row_answer
 returns-in-FrameBroken c =
-    let w = c.row_answer.ensures in record { number = sym (ap row_answer c.in-FrameBroken.is) ∙ w.number; key = refl; position = refl; start = refl; count = refl; }
+    let w = c.row_answer.ensures in record { number = sym (ap row_answer c.in-FrameBroken.is) ∙ w.number; key = refl; position = refl; start = refl; count = refl }
 
 pub returns-in-DimensionOver : goal.returns-in-DimensionOver
 unfolding row_answer
 returns-in-DimensionOver c =
-    let w = c.row_answer.ensures in record { number = sym (ap row_answer c.in-DimensionOver.is) ∙ w.number; key = refl; position = refl; start = refl; count = refl; }
+    let w = c.row_answer.ensures in record { number = sym (ap row_answer c.in-DimensionOver.is) ∙ w.number; key = refl; position = refl; start = refl; count = refl }
 
 pub returns-in-NotHeld : goal.returns-in-NotHeld
 unfolding row_answer
 returns-in-NotHeld c =
-    let w = c.row_answer.ensures in record { number = sym (ap row_answer c.in-NotHeld.is) ∙ w.number; key = refl; position = refl; start = refl; count = refl; }
+    let w = c.row_answer.ensures in record { number = sym (ap row_answer c.in-NotHeld.is) ∙ w.number; key = refl; position = refl; start = refl; count = refl }
 
 pub returns-in-NoSuchEntity : goal.returns-in-NoSuchEntity
 unfolding row_answer
 returns-in-NoSuchEntity c =
-    let w = c.row_answer.ensures in record { number = sym (ap row_answer c.in-NoSuchEntity.is) ∙ w.number; key = refl; position = refl; start = refl; count = refl; }
+    let w = c.row_answer.ensures in record { number = sym (ap row_answer c.in-NoSuchEntity.is) ∙ w.number; key = refl; position = refl; start = refl; count = refl }
 
 pub returns-in-RowsBroken : goal.returns-in-RowsBroken
 unfolding row_answer row_answer_place
@@ -61,4 +61,4 @@ returns-in-RowsBroken c =
     let w = c.row_answer.ensures in
     let t = c.in-RowsBroken.is in
     let e = sym (ap row_answer t) ∙ w.number in
-    let p = told-row _ _ _ _ _ _ e (sym (ap row_answer_place t) ∙ w.place) in record { number = e; key = p.0; position = p.1; start = refl; count = refl; }
+    let p = told-row _ _ _ _ _ _ e (sym (ap row_answer_place t) ∙ w.place) in record { number = e; key = p.0; position = p.1; start = refl; count = refl }

@@ -8,12 +8,12 @@ pub returns-in-Bytes : goal.returns-in-Bytes
 unfolding written_number written_place written_length
 returns-in-Bytes c =
     let w = c.write.ensures in
-    let t = c.in-Bytes.is in record { number = sym (ap written_number t) ∙ w.number; key = refl; position = refl; length = sym (ap written_length t) ∙ w.length (ap written_number t); bytes = w.bytes; }
+    let t = c.in-Bytes.is in record { number = sym (ap written_number t) ∙ w.number; key = refl; position = refl; length = sym (ap written_length t) ∙ w.length (ap written_number t); bytes = w.bytes }
 
 pub returns-in-FrameBroken : goal.returns-in-FrameBroken
 unfolding written_number
 returns-in-FrameBroken c =
-    let w = c.write.ensures in record { number = sym (ap written_number c.in-FrameBroken.is) ∙ w.number; key = refl; position = refl; length = refl; bytes = w.bytes; }
+    let w = c.write.ensures in record { number = sym (ap written_number c.in-FrameBroken.is) ∙ w.number; key = refl; position = refl; length = refl; bytes = w.bytes }
 
 pub returns-in-RowsBroken : goal.returns-in-RowsBroken
 unfolding written_number written_place
@@ -21,9 +21,9 @@ returns-in-RowsBroken c =
     let w = c.write.ensures in
     let t = c.in-RowsBroken.is in
     let e = sym (ap written_number t) ∙ w.number in
-    let p = told-place _ _ _ e (sym (ap written_place t) ∙ w.place) in record { number = e; key = p.0; position = p.1; length = refl; bytes = w.bytes; }
+    let p = told-place _ _ _ e (sym (ap written_place t) ∙ w.place) in record { number = e; key = p.0; position = p.1; length = refl; bytes = w.bytes }
 
 pub returns-in-BufferTooShort : goal.returns-in-BufferTooShort
 unfolding written_number
 returns-in-BufferTooShort c =
-    let w = c.write.ensures in record { number = sym (ap written_number c.in-BufferTooShort.is) ∙ w.number; key = refl; position = refl; length = refl; bytes = w.bytes; }
+    let w = c.write.ensures in record { number = sym (ap written_number c.in-BufferTooShort.is) ∙ w.number; key = refl; position = refl; length = refl; bytes = w.bytes }

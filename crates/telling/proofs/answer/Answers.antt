@@ -12,7 +12,7 @@ returns-then-number-ne0 c =
     let w = c.daybook_salvage-number.ensures in
     let h = c.if-number-ne0.true in
     let p = c.refused.ensures in
-    let k = c.cells-cells.ensures ∙ ap head_cells c.header.ensures ∙ head-cells _ in record { known = refused-outcome _ _ _ w.number h p.size k; text = refused-text _ _ _ w.number h (rw w.bytes at p); list = w.list; }
+    let k = c.cells-cells.ensures ∙ ap head_cells c.header.ensures ∙ head-cells _ in record { known = refused-outcome _ _ _ w.number h p.size k; text = refused-text _ _ _ w.number h (rw w.bytes at p); list = w.list }
 
 pub overflow_cast-result-2 : goal.overflow_cast-result-2
 overflow_cast-result-2 c =
@@ -48,4 +48,4 @@ returns c =
     let n = given _ _ _ w.number z _ w.count in
     let s = given _ _ _ w.number z _ w.spare in
     let p = given _ _ _ w.number z _ w.pad in
-    let o = given _ _ _ w.number z _ w.wrong in record { known = accepted-outcome _ _ _ w.number z l n k s p o; text = accepted-text _ _ _ w.number z l w.bytes; list = w.list; }
+    let o = given _ _ _ w.number z _ w.wrong in record { known = accepted-outcome _ _ _ w.number z l n k s p o; text = accepted-text _ _ _ w.number z l w.bytes; list = w.list }

@@ -15,7 +15,7 @@ pub returns-then-not-frame_right : goal.returns-then-not-frame_right
 unfolding asked_number asked_place
 returns-then-not-frame_right c =
     let a = c.args in
-    let g = ask-frame a.book.now a.d a.e (off c.frame_right.ensures c.if-not-frame_right.true) in record { number = g.number_is; place = untold-as 10 _ _ refl g.number_is; words = g.words_are; }
+    let g = ask-frame a.book.now a.d a.e (off c.frame_right.ensures c.if-not-frame_right.true) in record { number = g.number_is; place = untold-as 10 _ _ refl g.number_is; words = g.words_are }
 
 pub broken_at-requires : goal.broken_at-requires
 broken_at-requires c =
@@ -33,7 +33,7 @@ returns-in-BrokenAt c =
     let f = b in
     let a = f.args in
     let q = sym b.broken_at.ensures ∙ ap rows_place p.in-BrokenAt.is in
-    let g = ask-rows a.book.now a.d a.e (framed) (some-wrong _ (framed) _ q) in record { number = g.number_is; place = sym q ∙ told-eleven _ _ g.number_is; words = g.words_are; }
+    let g = ask-rows a.book.now a.d a.e (framed) (some-wrong _ (framed) _ q) in record { number = g.number_is; place = sym q ∙ told-eleven _ _ g.number_is; words = g.words_are }
 
 rowed : (c : goal.After-ask_right-arg-1) → rows_right c.args.book.now ≡ true
 unfolding rows_place
@@ -56,4 +56,4 @@ returns c =
     let found : broken_at c.args.book.now ≡ none =
     sym c.broken_at.ensures ∙ ap rows_place c.in_default.is in
     let k = c in
-    let e = k.ask_right.ensures in record { number = e.number; place = e.place ∙ untold-none _ _ (found); words = e.words; }
+    let e = k.ask_right.ensures in record { number = e.number; place = e.place ∙ untold-none _ _ (found); words = e.words }

@@ -19,14 +19,14 @@ unfolding asked_number asked_place
 returns-then-d-top c =
     let s = c in
     let a = s.args in
-    let g = ask-first a.book.now a.d a.e s.requires.0 s.requires.1 (rw c.dim-top.ensures at c.if-d-top.true) in record { number = g.number_is; place = refl; words = g.words_are; }
+    let g = ask-first a.book.now a.d a.e s.requires.0 s.requires.1 (rw c.dim-top.ensures at c.if-d-top.true) in record { number = g.number_is; place = refl; words = g.words_are }
 
 pub returns-then-e-top : goal.returns-then-e-top
 unfolding asked_number asked_place
 returns-then-e-top c =
     let s = c in
     let a = s.args in
-    let g = ask-second a.book.now a.d a.e s.requires.0 s.requires.1 (rw c.dim-top.ensures at c.if-e-top.true) in record { number = g.number_is; place = refl; words = g.words_are; }
+    let g = ask-second a.book.now a.d a.e s.requires.0 s.requires.1 (rw c.dim-top.ensures at c.if-e-top.true) in record { number = g.number_is; place = refl; words = g.words_are }
 
 -- ==== the entities that are counted already
 pub ask_differs-requires : goal.ask_differs-requires
@@ -49,7 +49,7 @@ returns-then-ask_differs c =
     let t = c in
     let s = t in
     let a = s.args in
-    let g = ask-differs a.book.now a.d a.e s.requires.0 s.requires.1 (first) (second) (sym c.ask_differs.ensures ∙ c.if-ask_differs.true) in record { number = g.number_is; place = refl; words = g.words_are; }
+    let g = ask-differs a.book.now a.d a.e s.requires.0 s.requires.1 (first) (second) (sym c.ask_differs.ensures ∙ c.if-ask_differs.true) in record { number = g.number_is; place = refl; words = g.words_are }
 
 -- ==== the relation
 pub key-requires : goal.key-requires
@@ -110,7 +110,7 @@ returns-then-not-ask_for c =
     let s = t in
     let a = s.args in
     let w = rw k.key.ensures at k.ask_for.ensures in
-    let g = ask-whole a.book.now a.d a.e s.requires.0 s.requires.1 (first) (second) (alike) false (sym (c.if-not-ask_for.true) ∙ w.fits) _ w.words in record { number = g.number_is; place = refl; words = g.words_are; }
+    let g = ask-whole a.book.now a.d a.e s.requires.0 s.requires.1 (first) (second) (alike) false (sym (c.if-not-ask_for.true) ∙ w.fits) _ w.words in record { number = g.number_is; place = refl; words = g.words_are }
 
 pub returns : goal.returns
 unfolding asked_number asked_place wanted answered
@@ -127,4 +127,4 @@ returns c =
     let s = t in
     let a = s.args in
     let w = rw k.key.ensures at k.ask_for.ensures in
-    let g = ask-whole a.book.now a.d a.e s.requires.0 s.requires.1 (first) (second) (alike) true (sym (c.if-not-ask_for.false) ∙ w.fits) _ w.words in record { number = g.number_is; place = refl; words = g.words_are; }
+    let g = ask-whole a.book.now a.d a.e s.requires.0 s.requires.1 (first) (second) (alike) true (sym (c.if-not-ask_for.false) ∙ w.fits) _ w.words in record { number = g.number_is; place = refl; words = g.words_are }

@@ -31,7 +31,7 @@ pub returns-then-not-frame_right : goal.returns-then-not-frame_right
 unfolding dropped_number dropped_place
 returns-then-not-frame_right c =
     let a = c.args in
-    let g = drop-frame a.book.now a.d a.e (off c.frame_right.ensures c.if-not-frame_right.true) in record { number = g.number_is; place = untold-as 10 _ _ refl g.number_is; words = g.words_are; }
+    let g = drop-frame a.book.now a.d a.e (off c.frame_right.ensures c.if-not-frame_right.true) in record { number = g.number_is; place = untold-as 10 _ _ refl g.number_is; words = g.words_are }
 
 -- ==== the rows
 pub broken_at-requires : goal.broken_at-requires
@@ -50,7 +50,7 @@ returns-in-BrokenAt c =
     let f = b in
     let a = f.args in
     let q = sym b.broken_at.ensures ∙ ap rows_place p.in-BrokenAt.is in
-    let g = drop-rows a.book.now a.d a.e frame (some-wrong _ frame _ q) in record { number = g.number_is; place = sym q ∙ told-eleven _ _ g.number_is; words = g.words_are; }
+    let g = drop-rows a.book.now a.d a.e frame (some-wrong _ frame _ q) in record { number = g.number_is; place = sym q ∙ told-eleven _ _ g.number_is; words = g.words_are }
 
 pub returns-then-d-top : goal.returns-then-d-top
 unfolding dropped_number dropped_place rows_place
@@ -65,7 +65,7 @@ returns-then-d-top c =
     none_right _ (frame) (found) in
     let r = c in
     let a = r.args in
-    let g = drop-first a.book.now a.d a.e (frame) (rows) (rw c.dim-top.ensures at c.if-d-top.true) in record { number = g.number_is; place = untold; words = g.words_are; }
+    let g = drop-first a.book.now a.d a.e (frame) (rows) (rw c.dim-top.ensures at c.if-d-top.true) in record { number = g.number_is; place = untold; words = g.words_are }
 
 pub returns-then-e-top : goal.returns-then-e-top
 unfolding dropped_number dropped_place rows_place
@@ -81,7 +81,7 @@ returns-then-e-top c =
     let t = c in
     let r = t in
     let a = r.args in
-    let g = drop-second a.book.now a.d a.e (frame) (rows) (rw t.dim-top.ensures at c.if-e-top.true) in record { number = g.number_is; place = untold; words = g.words_are; }
+    let g = drop-second a.book.now a.d a.e (frame) (rows) (rw t.dim-top.ensures at c.if-e-top.true) in record { number = g.number_is; place = untold; words = g.words_are }
 
 -- ==== whether it is held
 pub key-k-requires : goal.key-k-requires
@@ -118,7 +118,7 @@ returns-then-not-held c =
     let t = k in
     let r = t in
     let a = t.args in
-    let g = drop-none a.book.now a.d a.e (frame) (rows) (first) (second) (ap (held _) (sym k.key-k.ensures) ∙ off c.held.ensures c.if-not-held.true) in record { number = g.number_is; place = untold; words = g.words_are; }
+    let g = drop-none a.book.now a.d a.e (frame) (rows) (first) (second) (ap (held _) (sym k.key-k.ensures) ∙ off c.held.ensures c.if-not-held.true) in record { number = g.number_is; place = untold; words = g.words_are }
 
 -- ==== whether it is D→0
 pub key-requires : goal.key-requires
@@ -159,7 +159,7 @@ returns-then-k-key c =
     let g
     = drop_cells a.book.now a.d a.e (frame) (rows) (first) (second) (there)
     (same_first a.d a.e _ _ _ l k j c.if-k-key.true)
-    (same_second a.d a.e _ _ _ l k j c.if-k-key.true) in record { number = g.number_is; place = untold; words = g.words_are; }
+    (same_second a.d a.e _ _ _ l k j c.if-k-key.true) in record { number = g.number_is; place = untold; words = g.words_are }
 
 -- ==== the relation
 pub take_out-requires : goal.take_out-requires
@@ -210,4 +210,4 @@ returns c =
     let t = n in
     let r = t in
     let a = t.args in
-    let g = drop-whole a.book.now a.d a.e (frame) (rows) (first) (second) (there) (inner) _ c.take_out.ensures in record { number = g.number_is; place = untold; words = g.words_are; }
+    let g = drop-whole a.book.now a.d a.e (frame) (rows) (first) (second) (there) (inner) _ c.take_out.ensures in record { number = g.number_is; place = untold; words = g.words_are }

@@ -24,4 +24,4 @@ pub shape_of-answers : goal.shape_of-answers
 shape_of-answers c = c.loop-pair.invariant.size
 
 pub returns : goal.returns
-returns c = let t = c.loop-pair in let all = turn-all _ _ _ t.pair _ _ t.invariant (omega arith) (omega arith) in record { answers = all.0; words = all.1; }
+returns c = let t = c.loop-pair in let all = turn-all _ _ _ t.pair _ _ t.invariant (omega arith) (omega arith) in record { answers = all.0; words = all.1 }

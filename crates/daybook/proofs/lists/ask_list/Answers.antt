@@ -30,4 +30,4 @@ returns c =
       | then-number-eq0 w ↦ rw (w.book-is, w.answers-is) (list-each ws ps ns _ n.ensures w.if-number-eq0.true _ _ w.ask_each.ensures.answers w.ask_each.ensures.words)
       | else-number-eq0+then-number-ne20 w ↦ rw (w.book-is, w.answers-is) (list-alike ws ps ns _ n.ensures w.if-number-eq0.false w.if-number-ne20.true _ w.answer_all.ensures)
       | else-number-eq0+else-number-ne20 w ↦ rw (w.book-is, w.answers-is) (list-refused ws ps ns _ n.ensures w.if-number-ne20.false)
-    ] in record { number = c.listed.ensures ∙ g.number_is; answers = g.answers-are; words = g.words_are; }
+    ] in record { number = c.listed.ensures ∙ g.number_is; answers = g.answers-are; words = g.words_are }

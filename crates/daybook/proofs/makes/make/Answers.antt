@@ -21,7 +21,7 @@ pub returns-then-not-frame_right : goal.returns-then-not-frame_right
 unfolding made_number made_place
 returns-then-not-frame_right c =
     let a = c.args in
-    let g = make-frame a.book.now a.d a.e (off c.frame_right.ensures c.if-not-frame_right.true) in record { number = g.number_is; place = untold-as 10 _ _ refl g.number_is; words = g.words_are; }
+    let g = make-frame a.book.now a.d a.e (off c.frame_right.ensures c.if-not-frame_right.true) in record { number = g.number_is; place = untold-as 10 _ _ refl g.number_is; words = g.words_are }
 
 -- ==== the rows
 pub broken_at-requires : goal.broken_at-requires
@@ -40,7 +40,7 @@ returns-in-BrokenAt c =
     let f = b in
     let a = f.args in
     let q = sym b.broken_at.ensures ∙ ap rows_place p.in-BrokenAt.is in
-    let g = make-rows a.book.now a.d a.e frame (some-wrong _ frame _ q) in record { number = g.number_is; place = sym q ∙ told-eleven _ _ g.number_is; words = g.words_are; }
+    let g = make-rows a.book.now a.d a.e frame (some-wrong _ frame _ q) in record { number = g.number_is; place = sym q ∙ told-eleven _ _ g.number_is; words = g.words_are }
 
 pub returns-then-d-top : goal.returns-then-d-top
 unfolding made_number made_place rows_place
@@ -55,7 +55,7 @@ returns-then-d-top c =
     none_right _ (frame) (found) in
     let r = c in
     let a = r.args in
-    let g = make-first a.book.now a.d a.e (frame) (rows) (rw c.dim-top.ensures at c.if-d-top.true) in record { number = g.number_is; place = untold; words = g.words_are; }
+    let g = make-first a.book.now a.d a.e (frame) (rows) (rw c.dim-top.ensures at c.if-d-top.true) in record { number = g.number_is; place = untold; words = g.words_are }
 
 pub returns-then-e-top : goal.returns-then-e-top
 unfolding made_number made_place rows_place
@@ -71,7 +71,7 @@ returns-then-e-top c =
     let t = c in
     let r = t in
     let a = r.args in
-    let g = make-second a.book.now a.d a.e (frame) (rows) (rw t.dim-top.ensures at c.if-e-top.true) in record { number = g.number_is; place = untold; words = g.words_are; }
+    let g = make-second a.book.now a.d a.e (frame) (rows) (rw t.dim-top.ensures at c.if-e-top.true) in record { number = g.number_is; place = untold; words = g.words_are }
 
 -- ==== whether it is held
 pub key-requires : goal.key-requires
@@ -109,7 +109,7 @@ returns-then-held c =
     let t = h in
     let r = t in
     let a = t.args in
-    let g = make-held a.book.now a.d a.e (frame) (rows) (first) (second) (ap (held _) (sym h.key.ensures) ∙ sym h.held.ensures ∙ c.if-held.true) in record { number = g.number_is; place = untold; words = g.words_are; }
+    let g = make-held a.book.now a.d a.e (frame) (rows) (first) (second) (ap (held _) (sym h.key.ensures) ∙ sym h.held.ensures ∙ c.if-held.true) in record { number = g.number_is; place = untold; words = g.words_are }
 
 -- ==== what it is made from
 pub needs_held-requires : goal.needs_held-requires
@@ -149,7 +149,7 @@ returns-then-not-needs_held c =
     let t = n in
     let r = t in
     let a = t.args in
-    let g = make-need a.book.now a.d a.e (frame) (rows) (first) (second) (new) (off c.needs_held.ensures c.if-not-needs_held.true) in record { number = g.number_is; place = untold; words = g.words_are; }
+    let g = make-need a.book.now a.d a.e (frame) (rows) (first) (second) (new) (off c.needs_held.ensures c.if-not-needs_held.true) in record { number = g.number_is; place = untold; words = g.words_are }
 
 -- ==== the entities that are counted already
 pub make_differs-requires : goal.make_differs-requires
@@ -210,7 +210,7 @@ returns-then-make_differs c =
     let t = m in
     let a = t.args in
     let f = makable in
-    let g = make-differs a.book.now a.d a.e f.frame f.rows f.first f.second f.new f.sources (sym c.make_differs.ensures ∙ c.if-make_differs.true) in record { number = g.number_is; place = untold; words = g.words_are; }
+    let g = make-differs a.book.now a.d a.e f.frame f.rows f.first f.second f.new f.sources (sym c.make_differs.ensures ∙ c.if-make_differs.true) in record { number = g.number_is; place = untold; words = g.words_are }
 
 -- ==== the relation
 pub add-requires : goal.add-requires
@@ -276,7 +276,7 @@ returns-then-not-add c =
     let a = t.args in
     let f = makable in
     let w = k.add.ensures in
-    let g = make-whole a.book.now a.d a.e f.frame f.rows f.first f.second f.new f.sources (alike) false (sym (c.if-not-add.true) ∙ w.fits) _ w.words in record { number = g.number_is; place = untold; words = g.words_are; }
+    let g = make-whole a.book.now a.d a.e f.frame f.rows f.first f.second f.new f.sources (alike) false (sym (c.if-not-add.true) ∙ w.fits) _ w.words in record { number = g.number_is; place = untold; words = g.words_are }
 
 pub returns : goal.returns
 unfolding made_number made_place grown rows_place
@@ -314,4 +314,4 @@ returns c =
     let a = t.args in
     let f = makable in
     let w = k.add.ensures in
-    let g = make-whole a.book.now a.d a.e f.frame f.rows f.first f.second f.new f.sources (alike) true (sym (c.if-not-add.false) ∙ w.fits) _ w.words in record { number = g.number_is; place = untold; words = g.words_are; }
+    let g = make-whole a.book.now a.d a.e f.frame f.rows f.first f.second f.new f.sources (alike) true (sym (c.if-not-add.false) ∙ w.fits) _ w.words in record { number = g.number_is; place = untold; words = g.words_are }

@@ -11,20 +11,20 @@ returns-in-Around c =
     let b = c in
     let w = b.whole_box.ensures in
     let t = b.in-Around.is in
-    let e = sym (ap whole_boxed_ends t) ∙ w.ends in record { number = sym (ap whole_boxed_number t) ∙ w.number; key = refl; position = refl; some = some-put _ _ e; ends = c.put.ensures ∙ ends-put _ _ e _; }
+    let e = sym (ap whole_boxed_ends t) ∙ w.ends in record { number = sym (ap whole_boxed_number t) ∙ w.number; key = refl; position = refl; some = some-put _ _ e; ends = c.put.ensures ∙ ends-put _ _ e _ }
 
 pub returns-in-NoBox : goal.returns-in-NoBox
 unfolding whole_boxed_number whole_boxed_ends
 returns-in-NoBox c =
     let w = c.whole_box.ensures in
     let t = c.in-NoBox.is in
-    let e = sym (ap whole_boxed_ends t) ∙ w.ends in record { number = sym (ap whole_boxed_number t) ∙ w.number; key = refl; position = refl; some = none-put _ e; ends = ends-kept _ e _; }
+    let e = sym (ap whole_boxed_ends t) ∙ w.ends in record { number = sym (ap whole_boxed_number t) ∙ w.number; key = refl; position = refl; some = none-put _ e; ends = ends-kept _ e _ }
 
 pub returns-in-FrameBroken : goal.returns-in-FrameBroken
 unfolding whole_boxed_number whole_boxed_ends
 returns-in-FrameBroken c =
     let w = c.whole_box.ensures in
-    let t = c.in-FrameBroken.is in record { number = sym (ap whole_boxed_number t) ∙ w.number; key = refl; position = refl; some = refl; ends = ends-kept _ (sym (ap whole_boxed_ends t) ∙ w.ends) _; }
+    let t = c.in-FrameBroken.is in record { number = sym (ap whole_boxed_number t) ∙ w.number; key = refl; position = refl; some = refl; ends = ends-kept _ (sym (ap whole_boxed_ends t) ∙ w.ends) _ }
 
 pub returns-in-RowsBroken : goal.returns-in-RowsBroken
 unfolding whole_boxed_number whole_boxed_place whole_boxed_ends
@@ -32,22 +32,22 @@ returns-in-RowsBroken c =
     let w = c.whole_box.ensures in
     let t = c.in-RowsBroken.is in
     let e = sym (ap whole_boxed_number t) ∙ w.number in
-    let p = told-place _ _ _ e (sym (ap whole_boxed_place t) ∙ w.place) in record { number = e; key = p.0; position = p.1; some = refl; ends = ends-kept _ (sym (ap whole_boxed_ends t) ∙ w.ends) _; }
+    let p = told-place _ _ _ e (sym (ap whole_boxed_place t) ∙ w.place) in record { number = e; key = p.0; position = p.1; some = refl; ends = ends-kept _ (sym (ap whole_boxed_ends t) ∙ w.ends) _ }
 
 pub returns-in-AxisCount : goal.returns-in-AxisCount
 unfolding whole_boxed_number whole_boxed_ends
 returns-in-AxisCount c =
     let w = c.whole_box.ensures in
-    let t = c.in-AxisCount.is in record { number = sym (ap whole_boxed_number t) ∙ w.number; key = refl; position = refl; some = refl; ends = ends-kept _ (sym (ap whole_boxed_ends t) ∙ w.ends) _; }
+    let t = c.in-AxisCount.is in record { number = sym (ap whole_boxed_number t) ∙ w.number; key = refl; position = refl; some = refl; ends = ends-kept _ (sym (ap whole_boxed_ends t) ∙ w.ends) _ }
 
 pub returns-in-ListLength : goal.returns-in-ListLength
 unfolding whole_boxed_number whole_boxed_ends
 returns-in-ListLength c =
     let w = c.whole_box.ensures in
-    let t = c.in-ListLength.is in record { number = sym (ap whole_boxed_number t) ∙ w.number; key = refl; position = refl; some = refl; ends = ends-kept _ (sym (ap whole_boxed_ends t) ∙ w.ends) _; }
+    let t = c.in-ListLength.is in record { number = sym (ap whole_boxed_number t) ∙ w.number; key = refl; position = refl; some = refl; ends = ends-kept _ (sym (ap whole_boxed_ends t) ∙ w.ends) _ }
 
 pub returns-in-NotFinite : goal.returns-in-NotFinite
 unfolding whole_boxed_number whole_boxed_ends
 returns-in-NotFinite c =
     let w = c.whole_box.ensures in
-    let t = c.in-NotFinite.is in record { number = sym (ap whole_boxed_number t) ∙ w.number; key = refl; position = refl; some = refl; ends = ends-kept _ (sym (ap whole_boxed_ends t) ∙ w.ends) _; }
+    let t = c.in-NotFinite.is in record { number = sym (ap whole_boxed_number t) ∙ w.number; key = refl; position = refl; some = refl; ends = ends-kept _ (sym (ap whole_boxed_ends t) ∙ w.ends) _ }

@@ -19,4 +19,4 @@ bounds-pairs-last c = omega (arith, c.run_size-cells.ensures, run-some c.args.pa
 
 pub returns : goal.returns
 unfolding run_text
-returns c = let e = c.run_size-cells.ensures in record { cells = e; text = printed (rw (← e) c.put_run.ensures); }
+returns c = let e = c.run_size-cells.ensures in record { cells = e; text = printed (rw (← e) c.put_run.ensures) }
