@@ -37,7 +37,8 @@ def fault(text):
     return None
 
 
-WORDS = re.findall(r"^  rt ([a-z-]+)", subprocess.run(["rt", "help"], stdout=subprocess.PIPE, check=True).stdout.decode(), re.M)
+HELP = subprocess.run(["rt", "help"], stdout=subprocess.PIPE, stderr=subprocess.STDOUT).stdout.decode()
+WORDS = [word for words in re.findall(r"^(?:  |usage: |       )rt ([a-z|-]+)", HELP, re.M) for word in words.split("|")]
 found, failed = 0, 0
 for page in sys.argv[1:]:
     for text in texts(page):

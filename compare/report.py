@@ -1,7 +1,7 @@
 #!/usr/bin/env python3
 """Runs dayreport on files of every kind, and compares each output, byte for byte, with what the separate program makes of the file.
 
-PROGRAM holds the words that run it (checks/setup sets them); the one argument is the program's path.
+EMULATOR holds the words that run a program for x86-64 (checks/setup sets them); the one argument is the program's path.
 """
 
 import os
@@ -107,7 +107,7 @@ def cases():
 
 
 def main():
-    words = os.environ["PROGRAM"].split() + [sys.argv[1]]
+    words = os.environ.get("EMULATOR", "").split() + [sys.argv[1]]
     given = {}
     for name, data in cases():
         want = expected(data)

@@ -16,7 +16,6 @@ import itertools
 import os
 import platform
 import random
-import shutil
 import struct
 import subprocess
 import sys
@@ -90,16 +89,14 @@ def tools():
     """The C compiler for x86-64, and the words that run what it makes."""
     if platform.machine() == "x86_64":
         return ["cc"], []
-    home = os.path.dirname(os.path.dirname(os.path.realpath(shutil.which("rt"))))
-    emulator = os.path.join(home, "on", platform.machine(), "toolchain", "bin", "qemu-x86_64")
-    return ["x86_64-linux-gnu-gcc"], [emulator]
+    return ["x86_64-linux-gnu-gcc"], ["qemu-x86_64"]
 
 
 def built():
     """The driver, linked with the proved library that stands in target/staticlib."""
     archive = os.path.join(TOP, "target", "staticlib", "libdaybook_c.a")
     if not os.path.exists(archive):
-        subprocess.run(["rt", "staticlib", "daybook_c"], cwd=TOP, check=True, stdout=subprocess.DEVNULL)
+        subprocess.run([os.path.join(TOP, "library")], check=True, stdout=subprocess.DEVNULL)
     folder = os.path.join(TOP, "target", "compare")
     os.makedirs(folder, exist_ok=True)
     program = os.path.join(folder, "driver")

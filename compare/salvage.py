@@ -2,7 +2,7 @@
 """Runs daysalvage on files of every kind, and compares what it writes, byte for byte, with what the separate program makes of the file, and what it says
 on standard error, word for word, with what is said of it here. Then an input in pieces, one that stays open, and input and output that fail.
 
-PROGRAM holds the words that run it (checks/setup sets them); the one argument is the program's path.
+EMULATOR holds the words that run a program for x86-64 (checks/setup sets them); the one argument is the program's path.
 """
 
 import itertools
@@ -131,7 +131,7 @@ def failing(words):
 
 
 def main():
-    words = os.environ["PROGRAM"].split() + [sys.argv[1]]
+    words = os.environ.get("EMULATOR", "").split() + [sys.argv[1]]
     given = {}
 
     def meet(kind):
