@@ -50,7 +50,7 @@ def respelled(name, field):
 def declared():
     names = {}
     for path in sorted(glob.glob("crates/*/specs/**/*.antt", recursive=True) + glob.glob("crates/*/proofs/**/*.antt", recursive=True)):
-        if os.path.basename(path) in ("Answers.antt", "Invariants.antt"):
+        if "/proofs/" in path and os.path.basename(path) in ("Answers.antt", "Invariants.antt"):
             continue
         specs = "/specs/" in path
         in_record = in_data = False
