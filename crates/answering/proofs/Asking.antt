@@ -1,32 +1,17 @@
 -- Asks in turn: one key more, the first refusal, and the end.
 use mathlib.Core.Path.{◌≡◌, refl, sym, ◌∙◌}
 use mathlib.Core.Bool.{Bool, true, false, cond}
-use mathlib.Core.List.{List, [], ◌∷◌}
-use Prim.Native.Nat.{ℕ, ◌+◌, ◌/◌, ◌%◌, ◌≤◌, ◌<◌}
+use mathlib.Core.List.{List, ◌∷◌}
+use Prim.Native.Nat.{ℕ, ◌+◌, ◌/◌, ◌%◌, ◌<◌}
 use native.Mathlib.Numerals.{add-one}
-use native.Mathlib.Omega.{arith}
 use lib.ListN.{drop}
 use lib.Dec.{eqb}
 use lib.Seq.{drop-cons}
-use borrow.Author.Tests.{le-leb, lt-leb, eq-eqb, ne_eqb}
+use borrow.Author.Tests.{eq-eqb, ne_eqb}
 use Rattle.rules.specs.Lists.{up_to, keep}
 use Rattle.rules.proofs.Numbered.{get_or-up_to, length-up_to}
 use Rattle.rules.specs.Calls.{ask_number, ask_words}
 use Rattle.answering.specs.Program.{within, keys_to, asks_number, asks_words}
-
--- ---- a key of a mesh, or not
-module _ (top k : ℕ) where
-  pub within_both : k / 4 ≤ top → k % 4 ≤ top → within top k ≡ true
-  unfolding within
-  within_both h l = rw (le-leb (k / 4) top h, le-leb (k % 4) top l)
-
-  pub within-not-first : top < k / 4 → within top k ≡ false
-  unfolding within
-  within-not-first h = rw (lt-leb (k / 4) top h)
-
-  pub within-not-second : k / 4 ≤ top → top < k % 4 → within top k ≡ false
-  unfolding within
-  within-not-second h l = rw (le-leb (k / 4) top h, lt-leb (k % 4) top l)
 
 -- ---- one key: its number, and the words after it
 -- the number that an ask for the relation of key k gives, 0 where it is none of the mesh
@@ -82,19 +67,19 @@ module _ {top : ℕ} {before : List ℕ} {k : ℕ} {ws : List ℕ} (a : Asking t
         ≡ cond (eqb (key_number top ws k) 0) (asks_words (keys_from top (k + 1)) (key_words top ws k)) (key_words top ws k)
     words_step = a.words ∙ rw rest (one-words top k (drop (k + 1) (up_to 16)) ws)
 
-    pub asked-more : key_number top ws k ≡ 0 → Asking top before (k + 1) (key_words top ws k)
-    asked-more e = record { number = number_step ∙ rw (eq-eqb _ _ e); words = words_step ∙ rw (eq-eqb _ _ e) }
+    pub asked_more : key_number top ws k ≡ 0 → Asking top before (k + 1) (key_words top ws k)
+    asked_more e = record { number = number_step ∙ rw (eq-eqb _ _ e); words = words_step ∙ rw (eq-eqb _ _ e) }
 
-    pub refused-number : (key_number top ws k ≡ 0 → ⊥) → key_number top ws k ≡ asks_number (keys_to top) before
-    refused-number h = sym (number_step ∙ rw (ne_eqb _ _ h))
+    pub refused_number : (key_number top ws k ≡ 0 → ⊥) → key_number top ws k ≡ asks_number (keys_to top) before
+    refused_number h = sym (number_step ∙ rw (ne_eqb _ _ h))
 
-    pub refused-words : (key_number top ws k ≡ 0 → ⊥) → key_words top ws k ≡ asks_words (keys_to top) before
-    refused-words h = sym (words_step ∙ rw (ne_eqb _ _ h))
+    pub refused_words : (key_number top ws k ≡ 0 → ⊥) → key_words top ws k ≡ asks_words (keys_to top) before
+    refused_words h = sym (words_step ∙ rw (ne_eqb _ _ h))
 
-  pub asked-number : k ≡ 16 → 0 ≡ asks_number (keys_to top) before
+  pub asked_number : k ≡ 16 → 0 ≡ asks_number (keys_to top) before
   unfolding keep asks_number up_to
-  asked-number e = sym (rw e at a.number)
+  asked_number e = sym (rw e at a.number)
 
-  pub asked-words : k ≡ 16 → ws ≡ asks_words (keys_to top) before
+  pub asked_words : k ≡ 16 → ws ≡ asks_words (keys_to top) before
   unfolding keep asks_words up_to
-  asked-words e = sym (rw e at a.words)
+  asked_words e = sym (rw e at a.words)

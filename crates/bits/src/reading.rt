@@ -39,10 +39,8 @@ fn take_last(bytes: &[u8], bit: usize, width: u32) -> Taken
         value: 0,
         fetches: 0,
     };
-    let mut k: u32 = 0;
-    while k < n {
+    for k in 0..n {
         taken = one_more(bytes, at, k, taken);
-        k += 1;
     }
     part(taken, 8 * n - end, width)
 }

@@ -34,6 +34,7 @@ fn write_bytes(bytes: &mut [u8], start: usize, width: u32, value: u32)
 {
     let mut at = start;
     let mut left = width;
+    // No `for`: it would work out the byte and the shift of each turn from the turn's number, `start + k` and `width - 8 * (k + 1)`, where both step here.
     while left > 8 {
         left -= 8;
         put_bits(bytes, at, 0, 8, value >> left);

@@ -39,10 +39,20 @@ pub fn count(book: &[u32], d: u32) -> u32
     if d == 0 {
         return head / 65536 % 16384;
     }
-    if d == head / 1073741824 {
+    if d == dim(book) {
         return head / 8 % 8192;
     }
     word(book, Place(1 + d as usize))
+}
+
+// The most entities of dimension d that a cell has, where D is `top`.
+pub fn most(top: u32, d: u32) -> u32
+    ensures { result ≡ rule.most top d }
+{
+    if top == 2 {
+        return 3;
+    }
+    if d == 1 { 6 } else { 4 }
 }
 
 // The key 4d + e of the relation d→e.
@@ -87,13 +97,8 @@ pub fn place_of(book: &[u32], k: u32) -> Place
     ensures { result.0 ≡ rule.place book.now k }
 {
     let mut at = Place(5);
-    let mut j: u32 = 0;
-    while j < k {
-        if j == 32 {
-            return at;
-        }
+    for j in 0..k.min(32) {
         at = behind(book, j, at);
-        j += 1;
     }
     at
 }
@@ -103,12 +108,10 @@ pub fn places_of(book: &[u32]) -> Places
     ensures { numbers result.at ≡ map (rule.place book.now) (up_to 17) }
 {
     let mut at = [Place(5); 17];
-    let mut k: usize = 0;
-    while k < 16 {
+    for k in 0..16 {
         at[k + 1] = behind(book, k as u32, at[k]);
-        k += 1;
     }
-    Places { at: at }
+    Places { at }
 }
 
 // The last offset of the relation of key k: how many indices it has.

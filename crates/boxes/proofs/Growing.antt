@@ -1,11 +1,11 @@
 -- A box begun as the first vertex and grown by the others, one after another, has the ends that the rules give.
 use mathlib.Core.Path.{◌≡◌, refl, sym, ap, ◌∙◌}
 use mathlib.Core.List.{List, [], ◌∷◌, map}
-use Prim.Native.Nat.{ℕ, ◌+◌, ◌≤◌, ◌<◌}
+use Prim.Native.Nat.{ℕ, ◌+◌, ◌-◌, ◌≤◌, ◌<◌}
 use native.Mathlib.Omega.{arith}
 use native.Mathlib.Numerals.{add-one}
-use lib.ListN.{length, get_or, drop, drop_of_length-le}
-use lib.Seq.{drop-cons}
+use lib.ListN.{length, get_or, take, drop, drop_of_length-le, length-take, length-drop}
+use lib.Seq.{drop-cons, get_or-take, get_or-drop}
 use lib.Ieee.{Float, lt}
 use Rattle.rules.specs.Boxes.{greater, furthest, coordinate, ends_along, box_over}
 use Rattle.boxes.specs.Growing.{point_of, begins_as, grown_by, ends_of}
@@ -16,6 +16,13 @@ use Rattle.boxes.specs.declared.shapes.Bounds.{Bounds}
 unfoldable pub grown_by_all : Bounds → List Point → Bounds
 grown_by_all b [] = b
 grown_by_all b (p ∷ ps) = grown_by_all (grown_by b p) ps
+
+-- the vertices behind the first, one by one
+pub behind-first : (vs : List ℕ) → 0 < length vs → length (take (length vs - 1) (drop 1 vs)) + 1 ≡ length vs
+behind-first vs l = rw (length-take, length-drop) (omega arith)
+
+pub next-behind : (vs : List ℕ) (i : ℕ) → i + 1 < length vs → get_or (take (length vs - 1) (drop 1 vs)) i 0 ≡ get_or vs (i + 1) 0
+next-behind vs i l = get_or-take (length vs - 1) (drop 1 vs) i 0 (omega arith) ∙ get_or-drop 1 vs i 0 ∙ ap (λ (k : ℕ). get_or vs k 0) (omega arith)
 
 module _ (axes : ℕ) (coordinates : List Float) where
   -- the coordinates of the axes, and the points

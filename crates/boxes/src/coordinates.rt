@@ -18,20 +18,13 @@ fn finite(x: f64) -> bool
 pub fn all_finite(coordinates: &[f64]) -> bool
     ensures { result ≡ all_of is_finite coordinates.now }
 {
-    let mut i: usize = 0;
-    while i < coordinates.len() {
-        if !finite(coordinates[i]) {
-            return false;
-        }
-        i += 1;
-    }
-    true
+    coordinates.iter().all(|x| finite(*x))
 }
 
 // Coordinate k of vertex v: 0.0 past the axes, and past the list.
 fn coordinate(coordinates: &[f64], axes: usize, k: usize, v: u32) -> f64
-    requires fact_1 { axes ≤ 3 }
-    requires fact_2 { k ≤ 2 }
+    requires axes { axes ≤ 3 }
+    requires below { k ≤ 2 }
     ensures { result ≡ rule.coordinate axes coordinates.now k v }
 {
     if axes <= k {

@@ -4,10 +4,10 @@
 mod coordinates;
 mod shapes;
 
-ghost use Rattle.std.specs.Prelude.{◌≡◌, ◌<◌, ◌≤◌, length, get_or};
+ghost use Rattle.std.specs.Prelude.{◌≡◌, ◌<◌, ◌≤◌, length};
 ghost use Rattle.std.specs.Float.Ieee.{lt};
 ghost use Rattle.rules.specs.Boxes.{greater, replaced, box_over};
-ghost use Rattle.boxes.specs.Growing.{begins_as, grown_by, ends_of, point_of};
+ghost use Rattle.boxes.specs.Growing.{begins_as, grown_by, ends_of};
 
 pub use coordinates::{all_finite, point};
 pub use shapes::{Bounds, Point};
@@ -67,32 +67,14 @@ pub fn grow(bounds: &mut Bounds, point: Point)
     *bounds = grown(*bounds, point);
 }
 
-// The point of the vertex at place i of a list.
-fn point_at(vertices: &[u32], coordinates: &[f64], axes: usize, i: usize) -> Point
-    requires { (axes ≤ 3) × (i < length vertices.now) }
-    ensures { result ≡ point_of axes coordinates.now (get_or vertices.now i 0) }
-{
-    point(coordinates, axes, vertices[i])
-}
-
-// The box of the first vertex of a list.
-fn first_box(vertices: &[u32], coordinates: &[f64], axes: usize) -> Bounds
-    requires { (axes ≤ 3) × (0 < length vertices.now) }
-    ensures { result ≡ begins_as (point_of axes coordinates.now (get_or vertices.now 0 0)) }
-{
-    begun(point_at(vertices, coordinates, axes, 0))
-}
-
 // The box of vertices: begun as the first, and grown in place by the others in their order.
 pub fn box_over(vertices: &[u32], coordinates: &[f64], axes: usize) -> Bounds
     requires { (axes ≤ 3) × (0 < length vertices.now) }
     ensures { ends_of result ≡ box_over axes coordinates.now vertices.now }
 {
-    let mut bounds = first_box(vertices, coordinates, axes);
-    let mut i: usize = 1;
-    while i < vertices.len() {
-        grow(&mut bounds, point_at(vertices, coordinates, axes, i));
-        i += 1;
+    let mut bounds = begun(point(coordinates, axes, vertices[0]));
+    for v in &vertices[1..] {
+        grow(&mut bounds, point(coordinates, axes, *v));
     }
     bounds
 }

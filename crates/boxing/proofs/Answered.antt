@@ -1,5 +1,5 @@
 -- The calls' numbers and what comes with them, test by test; the tests of the coordinates are worked once for both.
-use mathlib.Core.Path.{◌≡◌, refl, sym, ◌∙◌}
+use mathlib.Core.Path.{◌≡◌, refl, sym, ap, ◌∙◌}
 use mathlib.Core.Bool.{true, false, cond, not, ◌&&◌, ◌||◌}
 use mathlib.Core.Logic.{inl, inr}
 use mathlib.Core.List.{List, []}
@@ -18,6 +18,10 @@ use Rattle.rules.specs.Calls.{first_broken}
 use Rattle.rules.specs.Boxes.{coordinate_rules, box_rules, box_number, whole_rules, whole_number}
 use Rattle.rules.proofs.Compared.{lt-or-le}
 use Rattle.rules.proofs.Told.{told-eleven, untold-as}
+use Rattle.std.specs.Prelude.{Result, IsErrAnd}
+use Rattle.kinds.specs.declared.refusals.Refusal.{Refusal}
+use Rattle.kinds.specs.Refusals.{refusal_number, refusal_place, answer_number, answer_place, given as gives}
+use Rattle.kinds.proofs.Determined.{handed-on, refused-accepted, placed-eleven}
 
 -- ==== what comes with a number
 -- the number, the place and the ends of an answer are those of a call with number m, where `box` is the box of an accepted one
@@ -36,6 +40,14 @@ module _ (ws : List ℕ) (box : List Float) where
   -- and an accepted call gives the box
   pub given : {m : ℕ} (ends : List Float) → ends ≡ box → 0 ≡ m → Answered ws box m 0 none ends
   given ends p e = (e, (untold-as 0 _ _ refl e, rw (← e) p))
+
+  -- a refusal that is handed on, and tells no place
+  pub passed-on : {A : Type 0} {m : ℕ} (view : A → List Float) (r : Refusal) (a : Result A Refusal) → IsErrAnd a (λ s. s ≡ r) → refusal_place r ≡ none → refusal_number r ≡ m
+      → Answered ws box m (answer_number a) (answer_place a) (gives [] view a)
+  passed-on view r a e p n =
+      let h = handed-on a r e in
+      let all = bare (refusal_number r) (placed-eleven r p) (ne_eqb (refusal_number r) 0 (refused-accepted r)) n in
+      (ap answer_number h ∙ all.0, (ap answer_place h ∙ p ∙ all.1.0, ap (gives [] view) h ∙ all.1.1))
 
 -- ==== the coordinates
 module _ (ws : List ℕ) (coordinates : List Float) (axes : ℕ) where
@@ -78,15 +90,7 @@ module _ (ws : List ℕ) (coordinates : List Float) (axes : ℕ) where
 
 -- ==== the box of an entity
 module _ (ws : List ℕ) (coordinates : List Float) (axes d i : ℕ) where
-  pub box-10 : frame_right ws ≡ false → 10 ≡ box_number ws coordinates axes d i
-  unfolding box_number box_rules first_broken
-  box-10 f = rw f
-
   module _ (f : frame_right ws ≡ true) where
-    pub box-11 : rows_right ws ≡ false → 11 ≡ box_number ws coordinates axes d i
-    unfolding box_number box_rules first_broken
-    box-11 r = rw (f, r)
-
     module _ (r : rows_right ws ≡ true) where
       pub box-12 : dim ws < d → 12 ≡ box_number ws coordinates axes d i
       unfolding box_number box_rules first_broken
@@ -109,15 +113,7 @@ module _ (ws : List ℕ) (coordinates : List Float) (axes d i : ℕ) where
 
 -- ==== the box of the whole mesh
 module _ (ws : List ℕ) (coordinates : List Float) (axes : ℕ) where
-  pub whole-10 : frame_right ws ≡ false → 10 ≡ whole_number ws coordinates axes
-  unfolding whole_number whole_rules first_broken
-  whole-10 f = rw f
-
   module _ (f : frame_right ws ≡ true) where
-    pub whole-11 : rows_right ws ≡ false → 11 ≡ whole_number ws coordinates axes
-    unfolding whole_number whole_rules first_broken
-    whole-11 r = rw (f, r)
-
     -- then the coordinates decide
     pub whole-rest : rows_right ws ≡ true → coordinate_number ws coordinates axes ≡ whole_number ws coordinates axes
     unfolding whole_number whole_rules first_broken

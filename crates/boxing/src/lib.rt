@@ -1,42 +1,41 @@
 // Frames for the viewer: the calls. The upright box of an entity, and of the whole mesh, from the coordinates of the vertices.
 #![tactic(auto)]
 
-mod answers;
-
-ghost use Rattle.std.specs.Prelude.{◌≡◌, not, ◌&&◌, ◌≤◌, ltb};
+ghost use Rattle.std.specs.Prelude.{◌≡◌, not, ◌&&◌, [], ◌≤◌, ltb};
 ghost use Rattle.std.proofs.Math.Option.{none};
 ghost use Rattle.rules.specs.Book.{key, held};
 ghost use Rattle.rules.specs.Broken.{broken_at, told};
 ghost use Rattle.rules.specs.Calls.{first_broken};
 ghost use Rattle.rules.specs.Boxes.{coordinate_rules, entity_box, whole_box, box_number, box_given, whole_number, whole_given};
 ghost use Rattle.boxes.specs.Growing.{ends_of};
-ghost use Rattle.boxing.specs.Answers.{lent_number, boxed_number, boxed_place, boxed_ends, whole_boxed_number, whole_boxed_place, whole_boxed_ends};
-ghost use Rattle.boxing.specs.Ready.{EntityReady, MeshReady};
+ghost use Rattle.kinds.specs.Refusals.{answer_number, answer_place, given};
+ghost use Rattle.boxing.specs.Answers.{some_ends};
+ghost use Rattle.boxing.specs.Ready.{EntityReady};
 
-use answers::Lent;
-pub use answers::{Boxed, WholeBoxed};
 use boxes::Bounds;
-use rows::Rows;
+use kinds::Refusal;
+use right::RightBook;
 
 // Whether these coordinates may be lent. Refusals: 26, 21, 27.
-fn lent(book: &[u32], coordinates: &[f64], axes: u32) -> Lent
-    ensures { lent_number result ≡ first_broken (coordinate_rules book.now coordinates.now axes) 0 }
+fn lent(book: &[u32], coordinates: &[f64], axes: u32) -> Result<(), Refusal>
+    ensures number { answer_number result ≡ first_broken (coordinate_rules book.now coordinates.now axes) 0 }
+    ensures place { answer_place result ≡ none }
 {
     if axes < 2 {
-        return Lent::AxisCount;
+        return Err(Refusal::AxisCount);
     }
     if axes > 3 {
-        return Lent::AxisCount;
+        return Err(Refusal::AxisCount);
     }
     let sized = coordinates.len() == axes as usize * book::count(book, 0) as usize;
     let finite = boxes::all_finite(coordinates);
     if !sized {
-        return Lent::ListLength;
+        return Err(Refusal::ListLength);
     }
     if !finite {
-        return Lent::NotFinite;
+        return Err(Refusal::NotFinite);
     }
-    Lent::Right
+    Ok(())
 }
 
 // Whether d→0 is needed and not held.
@@ -66,65 +65,51 @@ fn entity_box(book: &[u32], coordinates: &[f64], axes: u32, d: u32, i: u32) -> B
 }
 
 // The box of the entity (d, i). Refusals: 10, 11, 12, 15 if d→0 is not held for d > 0, 17, 26, 21, 27.
-pub fn box_of(book: &[u32], coordinates: &[f64], axes: u32, d: u32, i: u32) -> Boxed
-    ensures number { boxed_number result ≡ box_number book.now coordinates.now axes d i }
-    ensures place { boxed_place result ≡ told (box_number book.now coordinates.now axes d i) (broken_at book.now) }
-    ensures ends { boxed_ends result ≡ box_given book.now coordinates.now axes d i }
+pub fn box_of(
+    book: &[u32],
+    coordinates: &[f64],
+    axes: u32,
+    d: u32,
+    i: u32,
+) -> Result<Bounds, Refusal>
+    ensures number { answer_number result ≡ box_number book.now coordinates.now axes d i }
+    ensures place { answer_place result ≡ told (box_number book.now coordinates.now axes d i) (broken_at book.now) }
+    ensures ends { given [] ends_of result ≡ box_given book.now coordinates.now axes d i }
 {
-    if !frame::frame_right(book) {
-        return Boxed::FrameBroken;
-    }
-    if let Rows::BrokenAt(place) = rows::broken_at(book) {
-        return Boxed::RowsBroken(place);
-    }
-    if d > book::dim(book) {
-        return Boxed::DimensionOver;
+    let right = RightBook::check(book)?;
+    if d > right.dim() {
+        return Err(Refusal::DimensionOver);
     }
     if need_missing(book, d) {
-        return Boxed::NeedMissing;
+        return Err(Refusal::NeedMissing);
     }
     if i >= book::count(book, d) {
-        return Boxed::NoSuchEntity;
+        return Err(Refusal::NoSuchEntity);
     }
-    match lent(book, coordinates, axes) {
-        Lent::AxisCount => Boxed::AxisCount,
-        Lent::ListLength => Boxed::ListLength,
-        Lent::NotFinite => Boxed::NotFinite,
-        Lent::Right => Boxed::Around(entity_box(book, coordinates, axes, d, i)),
-    }
+    lent(book, coordinates, axes)?;
+    Ok(entity_box(book, coordinates, axes, d, i))
 }
 
-// The box of the whole mesh of a right book, over the vertices in some cell.
-fn mesh_box(book: &[u32], coordinates: &[f64], axes: u32) -> WholeBoxed
-    requires { MeshReady book.now axes }
-    ensures number { whole_boxed_number result ≡ 0 }
-    ensures place { whole_boxed_place result ≡ none }
-    ensures ends { whole_boxed_ends result ≡ whole_box book.now coordinates.now axes }
+// The box of the whole mesh, over the vertices in some cell, if there is one.
+fn mesh_box(book: &RightBook<'_>, coordinates: &[f64], axes: u32) -> Option<Bounds>
+    requires { axes ≤ 3 }
+    ensures { some_ends result ≡ whole_box book.now coordinates.now axes }
 {
     let mut used = [0u32; 8192];
-    let n = cells::list_used(book, &mut used);
+    let n = cells::list_used(book.words(), &mut used);
     if n == 0 {
-        return WholeBoxed::NoBox;
+        return None;
     }
-    WholeBoxed::Around(boxes::box_over(&used[..n], coordinates, axes as usize))
+    Some(boxes::box_over(&used[..n], coordinates, axes as usize))
 }
 
 // The box of the whole mesh, over the vertices in some cell; no box where there are none. Refusals: 10, 11, 26, 21, 27.
-pub fn whole_box(book: &[u32], coordinates: &[f64], axes: u32) -> WholeBoxed
-    ensures number { whole_boxed_number result ≡ whole_number book.now coordinates.now axes }
-    ensures place { whole_boxed_place result ≡ told (whole_number book.now coordinates.now axes) (broken_at book.now) }
-    ensures ends { whole_boxed_ends result ≡ whole_given book.now coordinates.now axes }
+pub fn whole_box(book: &[u32], coordinates: &[f64], axes: u32) -> Result<Option<Bounds>, Refusal>
+    ensures number { answer_number result ≡ whole_number book.now coordinates.now axes }
+    ensures place { answer_place result ≡ told (whole_number book.now coordinates.now axes) (broken_at book.now) }
+    ensures ends { given [] some_ends result ≡ whole_given book.now coordinates.now axes }
 {
-    if !frame::frame_right(book) {
-        return WholeBoxed::FrameBroken;
-    }
-    if let Rows::BrokenAt(place) = rows::broken_at(book) {
-        return WholeBoxed::RowsBroken(place);
-    }
-    match lent(book, coordinates, axes) {
-        Lent::AxisCount => WholeBoxed::AxisCount,
-        Lent::ListLength => WholeBoxed::ListLength,
-        Lent::NotFinite => WholeBoxed::NotFinite,
-        Lent::Right => mesh_box(book, coordinates, axes),
-    }
+    let whole = RightBook::check(book)?;
+    lent(book, coordinates, axes)?;
+    Ok(mesh_box(&whole, coordinates, axes))
 }

@@ -1,13 +1,11 @@
 -- One entity more at the head of its chain.
 use mathlib.Core.Path.{◌≡◌, ap, ◌∙◌}
-use mathlib.Core.Bool.{true, false}
-use mathlib.Core.List.{List, [], ◌∷◌}
+use mathlib.Core.List.{List, [], ◌∷◌, ◌++◌}
 use Prim.Native.Nat.{ℕ, ◌+◌, ◌*◌, ◌<◌}
 use native.Mathlib.Omega.{arith}
 use lib.ListN.{length, get_or, set, replicate, length-set, length-replicate}
 use lib.Seq.{get_or-set_same, get_or-set_other}
 use Rattle.rules.specs.Lists.{any_of, same}
-use Rattle.rules.specs.Made.{met}
 use Rattle.rules.proofs.Chained.{chains-none, chains-alike, chains-more}
 use Rattle.repeats.proofs.Walked.{among-newest}
 use Rattle.building.specs.Sets.{entity, entities, Chained}
@@ -19,23 +17,18 @@ chained-none = record { long = length-replicate {A = ℕ} 73728 0; chains = chai
 
 module _ {sets head next : List ℕ} {n : ℕ} (k : Chained sets head next n) (s : List ℕ) (l : get_or s 0 0 < 8192) where
   -- one more than the newest entity with the candidate's lowest vertex, or 0
-  abbrev first : ℕ
+  abbrev pub first : ℕ
   first = get_or head (get_or s 0 0) 0
 
   -- the candidate is looked for in the chain of its lowest vertex, and so among all
-  chain-any : any_of (same s) (entities sets n) ≡ any_of (same s) (entities sets first)
+  pub chain-any : any_of (same s) (entities sets n) ≡ any_of (same s) (entities sets first)
   unfolding entities
   chain-any = among-newest (entity sets) s (entity-only sets s) (k.chains.newest (get_or s 0 0) l)
 
-  pub met-old : true ≡ any_of (same s) (entities sets first) → entities sets n ≡ met (entities sets n) s
-  unfolding met
-  met-old h = rw (chain-any, ← h)
-
   module _ (h : n < 24576) (xs : List ℕ) (long : length xs ≡ 73728) (front : (j : ℕ) → j < 3 * n → get_or xs j 0 ≡ get_or sets j 0) (new : entity xs n ≡ s) where
     -- the entities with the new one
-    pub met-new : false ≡ any_of (same s) (entities sets first) → entities xs (n + 1) ≡ met (entities sets n) s
-    unfolding met
-    met-new q = rw (chain-any, ← q, entities-more xs n, new, entities-front sets xs n front)
+    pub entities-new : entities xs (n + 1) ≡ entities sets n ++ (s ∷ [])
+    entities-new = rw (entities-more xs n, new, entities-front sets xs n front)
 
     -- the chains with the new entity
     pub chained_more : Chained xs (set head (get_or s 0 0) (n + 1)) (set next n first) (n + 1)

@@ -1,5 +1,5 @@
 -- The entities as a list: one more at the end, and which of them a candidate can be.
-use mathlib.Core.Path.{◌≡◌, refl, sym, ap}
+use mathlib.Core.Path.{◌≡◌, refl, sym, ap, ◌∙◌}
 use mathlib.Core.Bool.{Bool, true, false, ◌&&◌}
 use mathlib.Core.Logic.{inl, inr}
 use mathlib.Core.List.{List, [], ◌∷◌, ◌++◌}
@@ -10,7 +10,7 @@ use lib.Dec.{eqb}
 use lib.ListN.{length, get_or}
 use Rattle.rules.specs.Lists.{up_to, same}
 use Rattle.rules.proofs.Tests.{cases, same-is}
-use Rattle.rules.proofs.Numbered.{length-rows, rows_agree}
+use Rattle.rules.proofs.Numbered.{length-rows, rows_agree, get_d_map, length-up_to, get_or-up_to}
 use Rattle.rules.proofs.Joined.{map_last}
 use Rattle.repeats.proofs.Walked.{Only}
 use Rattle.building.specs.Sets.{entity, entities, lowest}
@@ -26,6 +26,18 @@ entities-more sets n = map_last (entity sets) n
 pub entities-length : (sets : List ℕ) (n : ℕ) → length (entities sets n) ≡ n
 unfolding entities
 entities-length sets n = length-rows (entity sets) n
+
+-- the entities as a list, one by one
+module _ (sets : List ℕ) (n : ℕ) (es : List (List ℕ)) (e : entities sets n ≡ es) where
+  pub held-length : length es ≡ n
+  held-length = sym (ap length e) ∙ entities-length sets n
+
+  pub held-at : (i : ℕ) → i < n → get_or es i [] ≡ entity sets i
+  unfolding entities
+  held-at i l =
+      sym (ap (λ (xs : List (List ℕ)). get_or xs i []) e)
+      ∙ get_d_map (entity sets) (up_to n) i 0 [] (omega (arith, length-up_to n))
+      ∙ ap (entity sets) (get_or-up_to n i 0 l)
 
 -- words that are alike below 3n have the same n entities
 pub entities-front : (xs ys : List ℕ) (n : ℕ) → ((j : ℕ) → j < 3 * n → get_or ys j 0 ≡ get_or xs j 0) → entities ys n ≡ entities xs n

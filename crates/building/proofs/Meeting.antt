@@ -1,16 +1,16 @@
 -- The loops over a cell's candidates and over the cells: what is met so far.
 use mathlib.Core.Path.{◌≡◌, refl, sym, ap, ◌∙◌}
 use mathlib.Core.Bool.{true, false, cond}
-use mathlib.Core.List.{List, [], ◌∷◌, map}
+use mathlib.Core.List.{List, [], ◌∷◌, ◌++◌, map}
 use Prim.Native.Nat.{ℕ, zero, suc, ◌+◌, ◌-◌, ◌*◌, ◌≤◌, ◌<◌}
 use native.Mathlib.Nat.{add-zero}
 use native.Mathlib.Numerals.{add-one}
 use native.Mathlib.Omega.{arith}
 use borrow.Author.Tests.{ltb-true}
-use lib.ListN.{length, get_or, take, length-map}
+use lib.ListN.{length, get_or, take, length-map, length-append}
 use lib.Dec.{ltb, eqb}
 use lib.Seq.{take-suc, get_or-take, length-take-le, ext_get_or}
-use Rattle.rules.specs.Lists.{up_to, choose}
+use Rattle.rules.specs.Lists.{up_to, any_of, same, choose}
 use Rattle.rules.specs.Book.{most}
 use Rattle.rules.specs.Made.{met, met_all, built}
 use Rattle.rules.proofs.Tests.{get_or-in, all-at}
@@ -19,37 +19,27 @@ use Rattle.rules.proofs.Numbered.{get_d_map}
 use Rattle.rules.proofs.Joined.{map_last}
 use Rattle.relations.specs.Words.{part, start_of, row_at}
 use Rattle.relations.proofs.Placed.{part_at, part_length, rows_fit}
-use Rattle.building.specs.Sets.{padded, entities, Chained}
+use Rattle.building.specs.Sets.{padded}
 use Rattle.building.specs.Cells.{Between, Corners, Candidates}
-use Rattle.building.proofs.Entities.{entities-none}
 use Rattle.rules.proofs.Built.{built-last}
 use Rattle.building.proofs.Padding.{met_all-last, padded-all, padded-length, padded-first}
 
 -- ---- the candidates of one cell
--- j candidates are met after the n entities of sets₀
-pub record Meeting (sets₀ : List ℕ) (n : ℕ) (candidates : List (List ℕ)) (many : ℕ) (sets head next : List ℕ) (m j : ℕ) : Type 0 where
-  pub high : j ≤ many
-  pub chained : Chained sets head next m
-  pub found : entities sets m ≡ met_all (entities sets₀ n) (take j candidates)
-  pub few : m ≤ n + j
+-- a candidate is one entity more, or none
+pub met-few : (es : List (List ℕ)) (s : List ℕ) → length (met es s) ≤ length es + 1
+unfolding met
+met-few es s = elim (any_of (same s) es) as (λ b. length (cond b es (es ++ (s ∷ []))) ≤ length es + 1) [ true ↦ omega arith | false ↦ omega (arith, length-append es (s ∷ [])) ]
 
-pub meeting-none : (sets head next : List ℕ) (n : ℕ) (candidates : List (List ℕ)) (many : ℕ) → Chained sets head next n → Meeting sets n candidates many sets head next n 0
+pub met_all-few : (es ss : List (List ℕ)) → length (met_all es ss) ≤ length es + length ss
 unfolding met_all
-meeting-none sets head next n candidates many k = record { high = omega arith; chained = k; found = refl; few = omega arith }
+met_all-few es [] = omega arith
+met_all-few es (s ∷ ss) = omega (arith, met-few es s, met_all-few (met es s) ss)
 
-module _ {sets₀ : List ℕ} {n : ℕ} {candidates : List (List ℕ)} {many : ℕ} {sets head next : List ℕ} {m j : ℕ} (w : Meeting sets₀ n candidates many sets head next m j) where
-  pub meeting-more : j < many → many ≤ length candidates → {sets' head' next' : List ℕ} {r : ℕ} → Chained sets' head' next' r
-      → entities sets' r ≡ met (entities sets m) (get_or candidates j []) → r ≤ m + 1
-      → Meeting sets₀ n candidates many sets' head' next' r (j + 1)
-  meeting-more l h k e f = record {
-    high = omega arith;
-    chained = k;
-    found = e ∙ rw w.found (sym (met_all-last (entities sets₀ n) (take j candidates) (get_or candidates j [])) ∙ rw (add-one j, take-suc candidates j [] (omega arith)));
-    few = omega (arith, w.few);
-  }
-
-  pub meeting-all : many ≤ j → entities sets m ≡ met_all (entities sets₀ n) (take many candidates)
-  meeting-all l = let e : j ≡ many = omega (arith, w.high) in rw e at w.found
+-- one candidate more
+pub meeting-more : (es candidates now : List (List ℕ)) (j : ℕ) → now ≡ met_all es (take j candidates) → j < length candidates
+    → met now (get_or candidates j []) ≡ met_all es (take (j + 1) candidates)
+meeting-more es candidates now j e l =
+    rw e (sym (met_all-last es (take j candidates) (get_or candidates j [])) ∙ rw (add-one j, take-suc candidates j [] l))
 
 -- ---- the cells
 pub most-few : (D d : ℕ) → most D d ≤ 6
@@ -134,30 +124,31 @@ module _ {ws : List ℕ} {D at n : ℕ} (q : Corners ws D at n) (i : ℕ) (l : i
     pub cell-candidates : Candidates sets (most D d)
     cell-candidates = record { few = omega (arith, most-few D d); size = three; below = low }
 
+-- the first n candidates by themselves
+pub front-candidates : (sets : List (List ℕ)) (n : ℕ) → Candidates sets n → Candidates (take n sets) (length (take n sets))
+front-candidates sets n w =
+    let e : length (take n sets) ≡ n = length-take-le n sets w.few in
+    rw e record {
+      few = omega (arith, e);
+      size = λ j l. rw (get_or-take n sets j [] l) (w.size j l);
+      below = λ j l. rw (get_or-take n sets j [] l) (w.below j l);
+    }
+
 -- the candidates of i cells are met
-pub record Found (ws : List ℕ) (at n d : ℕ) (sets head next : List ℕ) (m i : ℕ) : Type 0 where
-  pub high : i ≤ n
-  pub chained : Chained sets head next m
-  pub found : entities sets m ≡ map (padded d) (built d [] (map (row_at ws at n) (up_to i)))
-  pub few : m ≤ 6 * i
+pub record Found (ws : List ℕ) (at n d : ℕ) (es : List (List ℕ)) (i : ℕ) : Type 0 where
+  pub found : es ≡ map (padded d) (built d [] (map (row_at ws at n) (up_to i)))
+  pub few : length es ≤ 6 * i
 
-pub found_none : (ws : List ℕ) (at n d : ℕ) (sets head next : List ℕ) → Chained sets head next 0 → Found ws at n d sets head next 0 0
+pub found_none : (ws : List ℕ) (at n d : ℕ) (es : List (List ℕ)) → es ≡ [] → Found ws at n d es 0
 unfolding up_to built
-found_none ws at n d sets head next k = record { high = omega arith; chained = k; found = entities-none sets; few = omega arith }
+found_none ws at n d es e = record { found = e; few = rw e (omega arith) }
 
-module _ {ws : List ℕ} {at n d : ℕ} {sets head next : List ℕ} {m i : ℕ} (w : Found ws at n d sets head next m i) where
-  pub found-more : i < n → {sets' head' next' : List ℕ} {r : ℕ} → Chained sets' head' next' r → (ss : List (List ℕ))
-      → entities sets' r ≡ met_all (entities sets m) ss → ss ≡ map (padded d) (choose (d + 1) (row_at ws at n i)) → r ≤ m + 6
-      → Found ws at n d sets' head' next' r (i + 1)
-  found-more l k ss e f g = record {
-    high = omega arith;
-    chained = k;
-    found =
-        e ∙ rw (w.found, f)
-        (padded-all d (built d [] (map (row_at ws at n) (up_to i))) (choose (d + 1) (row_at ws at n i))
-        ∙ rw (map_last (row_at ws at n) i) (ap (map (padded d)) (sym (built-last d [] (map (row_at ws at n) (up_to i)) (row_at ws at n i)))));
-    few = omega (arith, w.few);
-  }
-
-  pub found_all : n ≤ i → entities sets m ≡ map (padded d) (built d [] (map (row_at ws at n) (up_to n)))
-  found_all l = let e : i ≡ n = omega (arith, w.high) in rw e at w.found
+pub found-more : {ws : List ℕ} {at n d : ℕ} {es : List (List ℕ)} {i : ℕ} → Found ws at n d es i → (ss : List (List ℕ)) → length ss ≤ 6
+    → ss ≡ map (padded d) (choose (d + 1) (row_at ws at n i)) → Found ws at n d (met_all es ss) (i + 1)
+found-more {ws} {at} {n} {d} {es} {i} w ss l f = record {
+  found =
+      rw (w.found, f)
+      (padded-all d (built d [] (map (row_at ws at n) (up_to i))) (choose (d + 1) (row_at ws at n i))
+      ∙ rw (map_last (row_at ws at n) i) (ap (map (padded d)) (sym (built-last d [] (map (row_at ws at n) (up_to i)) (row_at ws at n i)))));
+  few = omega (arith, w.few, met_all-few es ss);
+}

@@ -1,17 +1,23 @@
 -- The vertices of one entity as words, and how many they are.
-use mathlib.Core.Path.{◌≡◌, refl}
-use mathlib.Core.List.{List}
+use mathlib.Core.Path.{◌≡◌, refl, sym, ap, ◌∙◌}
+use mathlib.Core.List.{List, map, map-map}
 use Prim.Native.Nat.{ℕ, ◌+◌, ◌*◌, ◌<◌}
 use native.Mathlib.Omega.{arith}
-use lib.ListN.{length, get_or, set}
+use lib.ListN.{length, get_or, set, take}
 use lib.Seq.{length-take-le}
 use Rattle.relations.specs.Words.{Written}
 use Rattle.relations.proofs.Appended.{written_none, written-more}
-use Rattle.building.specs.Sets.{entity, vertices}
+use Rattle.rules.specs.Lists.{up_to}
+use Rattle.building.specs.Sets.{entity, entities, vertices}
 
 pub vertices-length : (d : ℕ) (sets : List ℕ) → d < 3 → (i : ℕ) → length (vertices d sets i) ≡ d + 1
 unfolding vertices entity
 vertices-length d sets l i = length-take-le (d + 1) _ (omega arith)
+
+-- the entities' vertices, from the list of the entities
+pub entities-rows : (d : ℕ) (sets : List ℕ) (n : ℕ) (es : List (List ℕ)) → entities sets n ≡ es → map (vertices d sets) (up_to n) ≡ map (take (d + 1)) es
+unfolding entities vertices
+entities-rows d sets n es e = sym (map-map (take (d + 1)) (entity sets) (up_to n)) ∙ ap (map (take (d + 1))) e
 
 module _ (ws sets : List ℕ) (at i d : ℕ) where
   pub two-written : d ≡ 1 → Written ws at (vertices d sets i) (at + (d + 1)) (set (set ws at (get_or sets (3 * i) 0)) (at + 1) (get_or sets (3 * i + 1) 0))

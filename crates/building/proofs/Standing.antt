@@ -1,7 +1,7 @@
 -- A book that is ready for d→0 has cells as the code asks for them, and the sets met are d→0 as the rules make it.
 use mathlib.Core.Path.{◌≡◌, refl, sym, ap, ◌∙◌}
 use mathlib.Core.Bool.{true}
-use mathlib.Core.List.{List, [], map, map-map}
+use mathlib.Core.List.{List, [], map}
 use Prim.Native.Nat.{ℕ, ◌+◌, ◌<◌}
 use native.Mathlib.Omega.{arith}
 use borrow.Author.Tests.{ltb-true, lt-ltb}
@@ -19,9 +19,8 @@ use Rattle.relations.specs.Ready.{Ready}
 use Rattle.relations.proofs.Placed.{rows-within}
 use Rattle.relations.proofs.Linked.{row_is}
 use Rattle.relations.proofs.Right.{ready-rows, ready-ascends, ready-below, ready-vertices}
-use Rattle.building.specs.Sets.{padded, entity, entities, vertices}
+use Rattle.building.specs.Sets.{padded}
 use Rattle.building.specs.Cells.{Between, Source, Corners}
-use Rattle.building.proofs.Entities.{entities-length}
 use Rattle.building.proofs.Padding.{padded-back}
 
 module _ {ws : List ℕ} {d dst D at n : ℕ} (r : Ready ws d 0 dst) (s : Source ws D at n) (p : 0 < d) where
@@ -57,13 +56,12 @@ module _ {ws : List ℕ} {d dst D at n : ℕ} (r : Ready ws d 0 dst) (s : Source
       rw (s.stands, s.rows, s.top)
       (sym (made-is ws d 0 ∙ made-set _ _ _ d p ∙ rw (row_is ws (dim ws) 0 (omega arith))))
 
-  module _ (sets : List ℕ) (m : ℕ) (e : entities sets m ≡ map (padded d) (built d [] (map (row_at ws at n) (up_to n)))) where
-    pub made-rows : map (vertices d sets) (up_to m) ≡ made ws d 0
-    unfolding entities vertices
+  module _ (es : List (List ℕ)) (e : es ≡ map (padded d) (built d [] (map (row_at ws at n) (up_to n)))) where
+    pub made-rows : map (take (d + 1)) es ≡ made ws d 0
     made-rows =
-        sym (map-map (take (d + 1)) (entity sets) (up_to m)) ∙ ap (map (take (d + 1))) e
+        ap (map (take (d + 1))) e
         ∙ padded-back d (built d [] (map (row_at ws at n) (up_to n))) (λ t i. built-size d t _ i)
         ∙ sets-made
 
-    pub made-count : m ≡ length (made ws d 0)
-    made-count = sym (entities-length sets m) ∙ ap length e ∙ length-map (built d [] (map (row_at ws at n) (up_to n))) (padded d) ∙ ap length sets-made
+    pub made-count : length es ≡ length (made ws d 0)
+    made-count = ap length e ∙ length-map (built d [] (map (row_at ws at n) (up_to n))) (padded d) ∙ ap length sets-made

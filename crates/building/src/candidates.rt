@@ -7,7 +7,7 @@ ghost use Rattle.building.specs.Sets.{padded};
 ghost use Rattle.building.specs.Cells.{Between};
 
 use book::{Place, word};
-use dayfile::Vertex;
+use kinds::Vertex;
 
 // The four words from a place on as vertices: a cell's, and behind a triangle one word more.
 pub(crate) fn corners(book: &[u32], first: Place) -> [Vertex; 4]
@@ -23,21 +23,10 @@ pub(crate) fn corners(book: &[u32], first: Place) -> [Vertex; 4]
     ]
 }
 
-// How many candidates a cell has: a triangle's edges, or a tetrahedron's edges or faces.
-pub(crate) fn choices(top: u32, d: u32) -> usize
-    ensures { result ≡ most top d }
-{
-    if top == 2 {
-        return 3;
-    }
-    if d == 1 { 6 } else { 4 }
-}
-
 // The candidates of a cell in lexicographic order, and behind them empty ones.
 pub(crate) fn candidates(cell: [Vertex; 4], top: u32, d: u32) -> [[u32; 3]; 6]
     requires { Between d top }
-    ensures result_value { take (most top d) result ≡ map (padded d) (choose (d + 1) (take (top + 1) (numbers cell))) }
-    ensures result_len { length result ≡ 6 }
+    ensures { take (most top d) result ≡ map (padded d) (choose (d + 1) (take (top + 1) (numbers cell))) }
 {
     let v = cell[0].0;
     let w = cell[1].0;

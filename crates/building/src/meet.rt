@@ -1,136 +1,127 @@
 // Candidates met in turn: one not met before gets the next number, and the chain of its lowest vertex is where it is looked for.
-ghost use Rattle.std.specs.Prelude.{◌≡◌, Bool, true, [], map, ℕ, suc, ◌+◌, ◌*◌, ◌≤◌, ◌<◌, eqb, length, get_or, take};
+ghost use Rattle.std.specs.Prelude.{◌≡◌, [], ◌∷◌, ◌++◌, map, ◌+◌, ◌*◌, ◌≤◌, ◌<◌, length, get_or, take};
 ghost use Rattle.rules.specs.Lists.{up_to, any_of, same};
 ghost use Rattle.rules.specs.Made.{met, met_all, built};
-ghost use Rattle.rules.specs.Chains.{Links};
 ghost use Rattle.relations.specs.Words.{row_at};
-ghost use Rattle.building.specs.Sets.{padded, entity, entities, lowest, Chained};
+ghost use Rattle.building.specs.Sets.{padded};
 ghost use Rattle.building.specs.Cells.{Between, Corners, Candidates};
 
-use crate::candidates::{candidates, choices, corners};
-use book::Place;
-use relations::words::start_of;
+use crate::candidates::{candidates, corners};
+use relations::Source;
+use std::marker::Model;
 
-// Whether the candidate is entity i.
-fn is_entity(sets: &[u32; 73728], i: usize, candidate: [u32; 3]) -> bool
-    requires { (i < 24576) × ((length sets.now ≡ 73728) × (length candidate ≡ 3)) }
-    ensures { result ≡ same candidate (entity sets.now i) }
-{
-    if candidate[0] != sets[3 * i] {
-        return false;
-    }
-    if candidate[1] != sets[3 * i + 1] {
-        return false;
-    }
-    candidate[2] == sets[3 * i + 2]
+// The entities met so far, in their order: three words for each, and the chains of those with the same lowest vertex, the newest first.
+#[derive(Drop)]
+pub(crate) struct Met {
+    pub(crate) sets: [u32; 73728],
+    head: [u32; 8192],
+    next: [u32; 24576],
+    pub(crate) count: u32,
 }
 
-// Whether the candidate is among the entities of the chain that begins with `from`.
-fn met_before(sets: &[u32; 73728], next: &[u32; 24576], from: u32, candidate: [u32; 3]) -> bool
-    requires fact_1 { length sets.now ≡ 73728 }
-    requires fact_2 { Links (lowest sets.now) 24576 next.now from }
-    requires fact_3 { length candidate ≡ 3 }
-    requires fact_4 { ((i : ℕ) → from ≡ suc i → lowest sets.now i ≡ get_or candidate 0 0) }
-    ensures { result ≡ any_of (same candidate) (entities sets.now from) }
-{
-    let mut p = from;
-    while p > 0 {
-        let i = p as usize - 1;
-        if is_entity(sets, i, candidate) {
-            return true;
+impl Model for Met {
+    ghost use Rattle.std.specs.Prelude.{List, ℕ};
+    ghost use Rattle.building.specs.Sets.{entities, Chained};
+
+    ghost Value = { List (List ℕ) };
+
+    ghost view = { λ m. entities m.sets m.count };
+
+    ghost invariant = { λ m. Chained m.sets m.head m.next m.count };
+}
+
+impl Met {
+    // No entity yet.
+    pub(crate) fn none() -> Met
+        ensures { result ≡ [] }
+    {
+        Met {
+            sets: [0; 73728],
+            head: [0; 8192],
+            next: [0; 24576],
+            count: 0,
         }
-        p = next[i];
     }
-    false
-}
 
-// Puts the candidate's vertices down as entity i.
-fn store(sets: &mut [u32; 73728], i: usize, candidate: [u32; 3])
-    requires { (i < 24576) × ((length sets.old ≡ 73728) × (length candidate ≡ 3)) }
-    ensures i_after { entity sets.new i ≡ candidate }
-    ensures by_index { (j : ℕ) → j < 3 * i → get_or sets.new j 0 ≡ get_or sets.old j 0 }
-    ensures sets_len { length sets.new ≡ 73728 }
-{
-    sets[3 * i] = candidate[0];
-    sets[3 * i + 1] = candidate[1];
-    sets[3 * i + 2] = candidate[2];
-}
-
-// Meets one candidate after n entities, and gives how many there are then.
-fn meet(
-    sets: &mut [u32; 73728],
-    head: &mut [u32; 8192],
-    next: &mut [u32; 24576],
-    n: u32,
-    candidate: [u32; 3],
-) -> u32
-    requires fact_1 { Chained sets.old head.old next.old n }
-    requires fact_2 { n < 24576 }
-    requires fact_3 { length candidate ≡ 3 }
-    requires fact_4 { get_or candidate 0 0 < 8192 }
-    ensures chained { Chained sets.new head.new next.new result }
-    ensures result_after { entities sets.new result ≡ met (entities sets.old n) candidate }
-    ensures upper_bound { result ≤ n + 1 }
-{
-    let v = candidate[0] as usize;
-    let newest = head[v];
-    if met_before(sets, next, newest, candidate) {
-        return n;
+    // Whether the candidate is entity i. Three words are compared one by one, since this is the innermost test: no call, no loop.
+    fn is_entity(&self, i: usize, candidate: [u32; 3]) -> bool
+        requires { i < length self.now }
+        ensures { result ≡ same candidate (get_or self.now i []) }
+    {
+        let sets = &self.sets;
+        let at = 3 * i;
+        candidate[0] == sets[at] && candidate[1] == sets[at + 1] && candidate[2] == sets[at + 2]
     }
-    let i = n as usize;
-    store(sets, i, candidate);
-    next[i] = newest;
-    head[v] = n + 1;
-    n + 1
-}
 
-// Meets the first `many` candidates of a cell in their order.
-fn meet_cell(
-    sets: &mut [u32; 73728],
-    head: &mut [u32; 8192],
-    next: &mut [u32; 24576],
-    n: u32,
-    candidates: [[u32; 3]; 6],
-    many: usize,
-) -> u32
-    requires fact_1 { Chained sets.old head.old next.old n }
-    requires fact_2 { n + 6 ≤ 24576 }
-    requires fact_3 { many ≤ 6 }
-    requires fact_4 { Candidates candidates many }
-    ensures chained { Chained sets.new head.new next.new result }
-    ensures result_after { entities sets.new result ≡ met_all (entities sets.old n) (take many candidates) }
-    ensures upper_bound { result ≤ n + 6 }
-{
-    let mut met = n;
-    for j in 0..many {
-        let candidate = candidates[j];
-        met = meet(sets, head, next, met, candidate);
+    // Whether the candidate was met before.
+    fn has(&self, candidate: [u32; 3]) -> bool
+        requires { get_or candidate 0 0 < 8192 }
+        ensures { result ≡ any_of (same candidate) self.now }
+    {
+        let mut p = self.head[candidate[0] as usize];
+        // No `for` or chain: the next place of the chain is read from the last.
+        while p > 0 {
+            let i = p as usize - 1;
+            if self.is_entity(i, candidate) {
+                return true;
+            }
+            p = self.next[i];
+        }
+        false
     }
-    met
-}
 
-// Meets the candidates of every cell, the cells in ascending order, and gives how many entities there are.
-pub(crate) fn meet_cells(
-    book: &[u32],
-    sets: &mut [u32; 73728],
-    head: &mut [u32; 8192],
-    next: &mut [u32; 24576],
-    at: Place,
-    cells: usize,
-    top: u32,
-    d: u32,
-) -> u32
-    requires fact_1 { Chained sets.old head.old next.old 0 }
-    requires fact_2 { Between d top }
-    requires fact_3 { Corners book.now top at.0 cells }
-    ensures chained { Chained sets.new head.new next.new result }
-    ensures result_after { entities sets.new result ≡ map (padded d) (built d [] (map (row_at book.now at.0 cells) (up_to cells))) }
-{
-    let many = choices(top, d);
-    let mut n: u32 = 0;
-    for c in 0..cells {
-        let cell = corners(book, start_of(book, at, cells, c));
-        n = meet_cell(sets, head, next, n, candidates(cell, top, d), many);
+    // Puts the candidate down as one entity more: three stores, with no call for so short a copy.
+    fn add(&mut self, candidate: [u32; 3])
+        requires room { length self.old < 24576 }
+        requires lowest { get_or candidate 0 0 < 8192 }
+        ensures { self.new ≡ self.old ++ candidate ∷ [] }
+    {
+        let v = candidate[0] as usize;
+        let n = self.count;
+        let i = n as usize;
+        self.sets[3 * i] = candidate[0];
+        self.sets[3 * i + 1] = candidate[1];
+        self.sets[3 * i + 2] = candidate[2];
+        self.next[i] = self.head[v];
+        self.head[v] = n + 1;
+        self.count = n + 1;
     }
-    n
+
+    // Meets one candidate.
+    fn meet(&mut self, candidate: [u32; 3])
+        requires room { length self.old < 24576 }
+        requires lowest { get_or candidate 0 0 < 8192 }
+        ensures { self.new ≡ met self.old candidate }
+    {
+        if !self.has(candidate) {
+            self.add(candidate);
+        }
+    }
+
+    // Meets the candidates of a cell in their order.
+    fn meet_cell(&mut self, candidates: &[[u32; 3]])
+        requires room { length self.old + 6 ≤ 24576 }
+        requires few { length candidates.now ≤ 6 }
+        requires good { Candidates candidates.now (length candidates.now) }
+        ensures { self.new ≡ met_all self.old candidates.now }
+    {
+        for candidate in candidates {
+            self.meet(*candidate);
+        }
+    }
+
+    // Meets the candidates of every cell of D→0, the cells in ascending order.
+    pub(crate) fn meet_cells(&mut self, book: &[u32], cells: Source, d: u32)
+        requires none { self.old ≡ [] }
+        requires between { Between d cells.from }
+        requires corners { Corners book.now cells.from cells.at.0 cells.rows }
+        ensures { self.new ≡ map (padded d) (built d [] (map (row_at book.now cells.at.0 cells.rows) (up_to cells.rows))) }
+    {
+        let top = cells.from;
+        let many = book::most(top, d) as usize;
+        for c in 0..cells.rows as usize {
+            let cell = corners(book, cells.start(book, c));
+            self.meet_cell(&candidates(cell, top, d)[..many]);
+        }
+    }
 }

@@ -1,2 +1,3 @@
 pub mod CellsPart
+pub mod Lowest
 pub mod Marks

@@ -10,7 +10,7 @@ ghost use Rattle.rules.specs.Book.{dim, key, rows_of, frame_right, rows_right};
 ghost use Rattle.rules.specs.Calls.{used_vertices};
 ghost use Rattle.rules.specs.Stamps.{stamped, bears};
 
-pub use listed::{list_named, list_used};
+pub use listed::{list_named, list_passing, list_used};
 pub use unused::first_unused;
 
 // The vertices of the cells, one cell after another: the indices of D→0.
@@ -30,10 +30,8 @@ fn mark(vertices: &[u32], marks: &mut [u8; 8192])
     requires { all_of (λ v. ltb v 8192) vertices.now ≡ true }
     ensures { marks.new ≡ stamped marks.old 1 vertices.now }
 {
-    let mut p: usize = 0;
-    while p < vertices.len() {
-        marks[vertices[p] as usize] = 1;
-        p += 1;
+    for v in vertices {
+        marks[*v as usize] = 1;
     }
 }
 
@@ -42,15 +40,7 @@ fn marked(marks: &[u8; 8192], n: u32) -> u32
     requires { n ≤ 8192 }
     ensures { result ≡ length (keep (bears marks.now 1) (up_to n)) }
 {
-    let mut many: u32 = 0;
-    let mut v: u32 = 0;
-    while v < n {
-        if marks[v as usize] == 1 {
-            many += 1;
-        }
-        v += 1;
-    }
-    many
+    marks[..n as usize].iter().filter(|m| **m == 1).count() as u32
 }
 
 // How many vertices lie in at least one cell.

@@ -2,7 +2,7 @@
 use mathlib.Core.Path.{◌≡◌, sym, ◌∙◌}
 use mathlib.Core.Bool.{true, false}
 use mathlib.Core.List.{List}
-use mathlib.Core.Option.{none, some}
+use mathlib.Core.Option.{none}
 use Prim.Native.Nat.{ℕ}
 use lib.ListN.{length}
 use lib.Dec.{eqb}
@@ -16,60 +16,48 @@ use Rattle.rules.specs.Calls.{first_broken}
 use Rattle.rules.specs.Phases.{counted}
 use Rattle.rules.specs.Closures.{lengths_right, close_rules, close_number, accepted_for, closures_of, steps_of, bytes_of, closures_after, steps_after, bytes_after}
 use Rattle.rules.proofs.Accepted.{closes}
-use Rattle.rules.proofs.Told.{some-wrong, told-eleven, untold-as}
-use Rattle.closing.specs.Answers.{Ready}
+use Rattle.rules.proofs.Told.{untold-as}
+use Rattle.closing.specs.Ready.{Ready}
 
 -- with a number that is not 11 nothing comes
 pub bare : {m : ℕ} (ws : List ℕ) (n : ℕ) → eqb n 11 ≡ false → n ≡ m → (n ≡ m) × (none ≡ told m (broken_at ws))
 bare ws n x e = (e, untold-as n _ _ x e)
 
 module _ (ws : List ℕ) (counts : List ℤ) (a b d : ℕ) where
-  pub ten : frame_right ws ≡ false → 10 ≡ close_number ws counts a b d
-  unfolding close_number close_rules first_broken
-  ten f = rw f
-
   module _ (f : frame_right ws ≡ true) where
-    number-eleven : rows_right ws ≡ false → 11 ≡ close_number ws counts a b d
-    unfolding close_number close_rules first_broken
-    number-eleven r = rw (f, r)
-
-    -- with the place that was found
-    pub eleven : (at : ℕ × ℕ) → some at ≡ broken_at ws → (11 ≡ close_number ws counts a b d) × (some at ≡ told (close_number ws counts a b d) (broken_at ws))
-    eleven at e = let n = number-eleven (some-wrong ws f at (sym e)) in (n, e ∙ told-eleven _ _ n)
-
     module _ (r : rows_right ws ≡ true) where
       pub twelve : dim ws ≡ 1 → 12 ≡ close_number ws counts a b d
       unfolding close_number close_rules first_broken
       twelve e = rw (f, r, eq-eqb (dim ws) 1 e)
 
       module _ (n : dim ws ≡ 1 → ⊥) where
-        pub fifteen : held ws 4 ≡ false → 15 ≡ close_number ws counts a b d
-        unfolding close_number close_rules first_broken key
+        pub fifteen : held ws (key 1 0) ≡ false → 15 ≡ close_number ws counts a b d
+        unfolding close_number close_rules first_broken
         fifteen h = rw (f, r, ne_eqb (dim ws) 1 n, h)
 
-        module _ (h : held ws 4 ≡ true) where
-          pub fifteen-too : held ws 8 ≡ false → 15 ≡ close_number ws counts a b d
-          unfolding close_number close_rules first_broken key
+        module _ (h : held ws (key 1 0) ≡ true) where
+          pub fifteen-too : held ws (key 2 0) ≡ false → 15 ≡ close_number ws counts a b d
+          unfolding close_number close_rules first_broken
           fifteen-too g = rw (f, r, ne_eqb (dim ws) 1 n, h, g)
 
-          module _ (g : held ws 8 ≡ true) where
+          module _ (g : held ws (key 2 0) ≡ true) where
             pub twenty-one : lengths_right ws counts a b d ≡ false → 21 ≡ close_number ws counts a b d
-            unfolding close_number close_rules first_broken key
+            unfolding close_number close_rules first_broken
             twenty-one l = rw (f, r, ne_eqb (dim ws) 1 n, h, g, l)
 
             module _ (l : lengths_right ws counts a b d ≡ true) where
               pub twenty-two : all_of counted counts ≡ false → 22 ≡ close_number ws counts a b d
-              unfolding close_number close_rules first_broken key
+              unfolding close_number close_rules first_broken
               twenty-two c = rw (f, r, ne_eqb (dim ws) 1 n, h, g, l, c)
 
               pub accepted : all_of counted counts ≡ true → 0 ≡ close_number ws counts a b d
-              unfolding close_number close_rules first_broken key
+              unfolding close_number close_rules first_broken
               accepted c = rw (f, r, ne_eqb (dim ws) 1 n, h, g, l, c)
 
   -- an accepted call has passed all tests
   pub record Passed : Type 0 where
-    pub edges : Ready ws 4 counts b
-    pub faces : Ready ws 8 counts a
+    pub edges : Ready ws (key 1 0) counts b
+    pub faces : Ready ws (key 2 0) counts a
     pub even : d ≡ b
 
   pub passed : close_number ws counts a b d ≡ 0 → Passed

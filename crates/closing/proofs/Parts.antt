@@ -19,7 +19,7 @@ use Rattle.rules.proofs.RowRule.{row-all, row-length, row-vertices, offset-verti
 use Rattle.rules.proofs.RightBook.{joined-all}
 use Rattle.rules.specs.Closures.{edge_step, edge_byte, face_closure, steps_of, bytes_of, closures_of}
 use Rattle.closures.specs.Rows.{pair_at, triple_at, Rowed}
-use Rattle.closing.specs.Answers.{Ready}
+use Rattle.closing.specs.Ready.{Ready}
 
 -- rows whose members all pass, one after another
 all-joined : (p : ℕ → Bool) (f : ℕ → List ℕ) (xs : List ℕ) → all_of (λ i. all_of p (f i)) xs ≡ true → all_of p (joined (map f xs)) ≡ true

@@ -1,17 +1,17 @@
 // Phase closures: the call. Steps and bytes for every edge, closures for every face, from the counts of the vertices.
 #![tactic(auto)]
 
-mod answers;
-
 ghost use Rattle.std.specs.Prelude.{◌≡◌, true, length};
 ghost use Rattle.rules.specs.Lists.{all_of};
+ghost use Rattle.rules.specs.Book.{key};
 ghost use Rattle.rules.specs.Broken.{broken_at, told};
 ghost use Rattle.rules.specs.Phases.{counted};
 ghost use Rattle.rules.specs.Closures.{steps_of, bytes_of, closures_of, lengths_right, close_number, closures_after, steps_after, bytes_after};
-ghost use Rattle.closing.specs.Answers.{closed_number, closed_place, Ready};
+ghost use Rattle.kinds.specs.Refusals.{answer_number, answer_place};
+ghost use Rattle.closing.specs.Ready.{Ready};
 
-pub use answers::{Closed, closed_number};
-use rows::Rows;
+use kinds::Refusal;
+use right::RightBook;
 
 // Whether a count may be lent: −32,768 to 32,767, or 65,536.
 fn may_be_lent(count: i32) -> bool
@@ -30,37 +30,29 @@ fn may_be_lent(count: i32) -> bool
 fn all_lent(counts: &[i32]) -> bool
     ensures { result ≡ all_of counted counts.now }
 {
-    let mut i: usize = 0;
-    while i < counts.len() {
-        let k = counts[i];
-        if !may_be_lent(k) {
-            return false;
-        }
-        i += 1;
-    }
-    true
+    counts.iter().all(|count| may_be_lent(*count))
 }
 
 // Writes the steps and bytes of all edges of a right book.
 fn fill_steps(book: &[u32], counts: &[i32], steps: &mut [f64], bytes: &mut [u8])
-    requires fact_1 { Ready book.now 4 counts.now (length steps.old) }
-    requires fact_2 { length bytes.old ≡ length steps.old }
+    requires edges { Ready book.now (key 1 0) counts.now (length steps.old) }
+    requires even { length bytes.old ≡ length steps.old }
     ensures steps { steps.new ≡ steps_of book.now counts.now }
     ensures bytes { bytes.new ≡ bytes_of book.now counts.now }
 {
     let n = steps.len();
-    let at = book::place_of(book, 4).0 + n + 1;
+    let at = book::place_of(book, book::key(1, 0)).0 + n + 1;
     let end = at + 2 * n;
     closures::write_steps(&book[at..end], counts, steps, bytes);
 }
 
 // Writes the closures of all faces of a right book.
 fn fill_closures(book: &[u32], counts: &[i32], out: &mut [i32])
-    requires { Ready book.now 8 counts.now (length out.old) }
+    requires { Ready book.now (key 2 0) counts.now (length out.old) }
     ensures { out.new ≡ closures_of book.now counts.now }
 {
     let n = out.len();
-    let at = book::place_of(book, 8).0 + n + 1;
+    let at = book::place_of(book, book::key(2, 0)).0 + n + 1;
     let end = at + 3 * n;
     closures::write_closures(&book[at..end], counts, out);
 }
@@ -83,34 +75,35 @@ fn lengths_right(book: &[u32], counts: &[i32], closures: usize, steps: usize, by
 }
 
 // What the call answers for lists of these lengths. Refusals: 10, 11, 12, 15, 21, 22.
-fn answer(book: &[u32], counts: &[i32], closures: usize, steps: usize, bytes: usize) -> Closed
-    ensures number { closed_number result ≡ close_number book.now counts.now closures steps bytes }
-    ensures place { closed_place result ≡ told (close_number book.now counts.now closures steps bytes) (broken_at book.now) }
+fn answer(
+    book: &[u32],
+    counts: &[i32],
+    closures: usize,
+    steps: usize,
+    bytes: usize,
+) -> Result<(), Refusal>
+    ensures number { answer_number result ≡ close_number book.now counts.now closures steps bytes }
+    ensures place { answer_place result ≡ told (close_number book.now counts.now closures steps bytes) (broken_at book.now) }
 {
-    if !frame::frame_right(book) {
-        return Closed::FrameBroken;
+    let right = RightBook::check(book)?;
+    if right.dim() == 1 {
+        return Err(Refusal::DimensionOver);
     }
-    if let Rows::BrokenAt(place) = rows::broken_at(book) {
-        return Closed::RowsBroken(place);
+    if !right.held(book::key(1, 0)) {
+        return Err(Refusal::NeedMissing);
     }
-    if book::dim(book) == 1 {
-        return Closed::OneDimension;
-    }
-    if !book::held(book, 4) {
-        return Closed::NeedMissing;
-    }
-    if !book::held(book, 8) {
-        return Closed::NeedMissing;
+    if !right.held(book::key(2, 0)) {
+        return Err(Refusal::NeedMissing);
     }
     let sized = lengths_right(book, counts, closures, steps, bytes);
     let lent = all_lent(counts);
     if !sized {
-        return Closed::ListLength;
+        return Err(Refusal::ListLength);
     }
     if !lent {
-        return Closed::CountOutside;
+        return Err(Refusal::CountOutside);
     }
-    Closed::Accepted
+    Ok(())
 }
 
 // Writes the steps and bytes of all edges and the closures of all faces. Refusals: 10, 11, 12 if D is 1, 15, 21, 22.
@@ -120,18 +113,15 @@ pub fn close(
     closures: &mut [i32],
     steps: &mut [f64],
     bytes: &mut [u8],
-) -> Closed
-    ensures number { closed_number result ≡ close_number book.now counts.now (length closures.old) (length steps.old) (length bytes.old) }
-    ensures place { closed_place result ≡ told (close_number book.now counts.now (length closures.old) (length steps.old) (length bytes.old)) (broken_at book.now) }
+) -> Result<(), Refusal>
+    ensures number { answer_number result ≡ close_number book.now counts.now (length closures.old) (length steps.old) (length bytes.old) }
+    ensures place { answer_place result ≡ told (close_number book.now counts.now (length closures.old) (length steps.old) (length bytes.old)) (broken_at book.now) }
     ensures closures { closures.new ≡ closures_after book.now counts.now closures.old steps.old bytes.old }
     ensures steps { steps.new ≡ steps_after book.now counts.now closures.old steps.old bytes.old }
     ensures bytes { bytes.new ≡ bytes_after book.now counts.now closures.old steps.old bytes.old }
 {
-    let a = answer(book, counts, closures.len(), steps.len(), bytes.len());
-    if closed_number(a) != 0 {
-        return a;
-    }
+    answer(book, counts, closures.len(), steps.len(), bytes.len())?;
     fill_steps(book, counts, steps, bytes);
     fill_closures(book, counts, closures);
-    a
+    Ok(())
 }

@@ -69,26 +69,21 @@
 // salvage gives none of 6, 7, 8 and 23 as a call: they stand in its list, beside the number of each cell that it drops: 6 where the cell is not whole in the file, 23 where it has the vertices of one kept before it, and of the four the first that applies.
 #![tactic(auto)]
 
-mod answers;
 mod asks;
 mod drops;
 mod lists;
 mod makes;
 
-pub use answers::{Asked, Dropped, Listed, Made, asked_number};
 pub use asks::ask;
 pub use boxes::Bounds;
-pub use boxing::{Boxed, WholeBoxed, box_of, whole_box};
-pub use closing::{Closed, close, closed_number};
+pub use boxing::{box_of, whole_box};
+pub use closing::close;
 pub use drops::drop_relation;
+pub use kinds::{Broken, Cell, NotSheet, Refusal};
 pub use lists::ask_list;
-pub use loading::{Loaded, load};
+pub use loading::load;
 pub use makes::make;
-pub use plain::{WorkedOut, plain};
-pub use reading::{
-    Counted, EulerNumber, Found, RowAnswer, Written, euler, find, held_count, row, row_answer,
-    row_number, write,
-};
-pub use rows::Broken;
-pub use salvaging::{Salvaged, Saved, salvage};
-pub use sheets::{NotSheet, Rim, Sheeted, sheet};
+pub use plain::plain;
+pub use reading::{Found, euler, find, held_count, row, row_answer, write};
+pub use salvaging::{Saved, salvage};
+pub use sheets::{Rim, sheet};

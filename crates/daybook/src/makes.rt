@@ -4,10 +4,10 @@ ghost use Rattle.rules.specs.Lists.{all_of};
 ghost use Rattle.rules.specs.Book.{dim, held, needs};
 ghost use Rattle.rules.specs.Broken.{broken_at, told};
 ghost use Rattle.rules.specs.Calls.{make_number, make_words};
-ghost use Rattle.daybook.specs.Answers.{made_number, made_place};
+ghost use Rattle.kinds.specs.Refusals.{answer_number, answer_place};
 
-use crate::answers::Made;
-use rows::Rows;
+use kinds::Refusal;
+use right::RightBook;
 
 // Whether what d→e is made from is held.
 fn needs_held(book: &[u32], d: u32, e: u32) -> bool
@@ -15,48 +15,30 @@ fn needs_held(book: &[u32], d: u32, e: u32) -> bool
     ensures { result ≡ all_of (held book.now) (needs (dim book.now) d e) }
 {
     let needs = frame::needs_of(book::dim(book), d, e);
-    let keys = needs.keys;
-    let n = needs.count;
-    let mut i: usize = 0;
-    while i < n {
-        if !book::held(book, keys[i]) {
-            return false;
-        }
-        i += 1;
-    }
-    true
+    needs.keys().iter().all(|key| book::held(book, *key))
 }
 
 // Makes d→e from what the book stores. Refusals: 10, 11, 12, 14, 15, 25, 13.
-pub fn make(book: &mut [u32], d: u32, e: u32) -> Made
-    ensures number { made_number result ≡ make_number book.old d e }
-    ensures place { made_place result ≡ told (make_number book.old d e) (broken_at book.old) }
+pub fn make(book: &mut [u32], d: u32, e: u32) -> Result<(), Refusal>
+    ensures number { answer_number result ≡ make_number book.old d e }
+    ensures place { answer_place result ≡ told (make_number book.old d e) (broken_at book.old) }
     ensures words { book.new ≡ make_words book.old d e }
 {
-    if !frame::frame_right(book) {
-        return Made::FrameBroken;
-    }
-    if let Rows::BrokenAt(place) = rows::broken_at(book) {
-        return Made::RowsBroken(place);
-    }
-    let top = book::dim(book);
+    let top = RightBook::check(book)?.dim();
     if d > top {
-        return Made::DimensionOver;
+        return Err(Refusal::DimensionOver);
     }
     if e > top {
-        return Made::DimensionOver;
+        return Err(Refusal::DimensionOver);
     }
     if book::held(book, book::key(d, e)) {
-        return Made::AlreadyHeld;
+        return Err(Refusal::AlreadyHeld);
     }
     if !needs_held(book, d, e) {
-        return Made::NeedMissing;
+        return Err(Refusal::NeedMissing);
     }
     if making::make_differs(book, d, e) {
-        return Made::NumberDiffers;
+        return Err(Refusal::NumberDiffers);
     }
-    if !making::add(book, d, e) {
-        return Made::NoRoom;
-    }
-    Made::Accepted
+    making::add(book, d, e)
 }

@@ -1,3 +1,4 @@
 pub mod Given
 pub mod Saving
 pub mod Sheeting
+pub mod Telling

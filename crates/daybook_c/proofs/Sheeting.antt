@@ -4,18 +4,7 @@ use mathlib.Core.List.{List, [], ◌∷◌}
 use Prim.Native.Nat.{ℕ}
 use lib.ListN.{length, get_or}
 use Rattle.rules.specs.Sheet.{rim_edges_of, rim_vertices_of, rim_length_of, sheet_answer, sheet_number, sheet_given}
-use Rattle.sheets.specs.Answers.{why_answer}
-use Rattle.sheets.specs.declared.answers.NotSheet.{NotSheet}
-use Rattle.sheets.specs.declared.answers.NotSheet.TheVariants as whys
 use Rattle.sheets.specs.declared.answers.Rim.{Rim}
-
--- whatever shows that a book is not a sheet, the number is 28
-pub why-number : (w : NotSheet) → 28 ≡ get_or (why_answer w) 0 0
-unfolding why_answer
-why-number whys.Dimension = refl
-why-number (whys.Vertex v) = refl
-why-number (whys.Edge k) = refl
-why-number (whys.Cell c) = refl
 
 module _ (ws : List ℕ) (acrosses bytes vertices edges : ℕ) where
   -- the number of an answer
@@ -26,13 +15,6 @@ module _ (ws : List ℕ) (acrosses bytes vertices edges : ℕ) where
   -- what comes with it at place k, or what was there
   pub carried-told : (a : List ℕ) → a ≡ sheet_answer ws acrosses bytes vertices edges → (k old : ℕ) → get_or a k old ≡ get_or (sheet_answer ws acrosses bytes vertices edges) k old
   carried-told a e k old = ap (λ (ns : List ℕ). get_or ns k old) e
-
-  -- a number alone: why and which are what they were
-  pub alone-told : (n : ℕ) → n ∷ [] ≡ sheet_answer ws acrosses bytes vertices edges → (why which : ℕ)
-      → (n ≡ sheet_number ws acrosses bytes vertices edges)
-      × (why ≡ get_or (sheet_answer ws acrosses bytes vertices edges) 1 why)
-      × (which ≡ get_or (sheet_answer ws acrosses bytes vertices edges) 2 which)
-  alone-told n e why which = (number-told _ e, carried-told _ e 1 why, carried-told _ e 2 which)
 
   -- where it accepts, the three numbers of the rim
   pub rim-given : (r : Rim) → 0 ≡ sheet_number ws acrosses bytes vertices edges → r.length ∷ r.vertices ∷ r.edges ∷ [] ≡ sheet_given ws acrosses bytes vertices edges

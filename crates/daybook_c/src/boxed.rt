@@ -2,23 +2,8 @@
 ghost use Rattle.std.specs.Prelude.{◌≡◌, cond, eqb};
 ghost use Rattle.rules.specs.Broken.{broken_key, broken_place};
 ghost use Rattle.rules.specs.Boxes.{box_number, box_given, whole_number, whole_given, some_box, box_after};
-ghost use Rattle.boxes.specs.Growing.{ends_of};
 
-use daybook::{Bounds, Boxed, WholeBoxed};
-
-// Writes the ends of a box.
-fn put(bounds: Bounds, ends: &mut [f64; 6])
-    ensures { ends.new ≡ ends_of bounds }
-{
-    *ends = [
-        bounds.least_x,
-        bounds.greatest_x,
-        bounds.least_y,
-        bounds.greatest_y,
-        bounds.least_z,
-        bounds.greatest_z,
-    ];
-}
+use crate::told::refused;
 
 // The box of the entity (d, i): where accepted, its ends are written.
 pub fn daybook_box(
@@ -37,22 +22,11 @@ pub fn daybook_box(
     ensures ends { ends.new ≡ box_after (box_given book.now coordinates.now axes d i) ends.old }
 {
     match daybook::box_of(book, coordinates, axes, d, i) {
-        Boxed::Around(bounds) => {
-            put(bounds, ends);
+        Ok(bounds) => {
+            *ends = bounds.into();
             0
         }
-        Boxed::FrameBroken => 10,
-        Boxed::RowsBroken(place) => {
-            *key = place.key;
-            *position = place.position;
-            11
-        }
-        Boxed::DimensionOver => 12,
-        Boxed::NeedMissing => 15,
-        Boxed::NoSuchEntity => 17,
-        Boxed::AxisCount => 26,
-        Boxed::ListLength => 21,
-        Boxed::NotFinite => 27,
+        Err(refusal) => refused(refusal, key, position),
     }
 }
 
@@ -73,23 +47,15 @@ pub fn daybook_whole_box(
     ensures ends { ends.new ≡ box_after (whole_given book.now coordinates.now axes) ends.old }
 {
     match daybook::whole_box(book, coordinates, axes) {
-        WholeBoxed::Around(bounds) => {
-            put(bounds, ends);
+        Ok(Some(bounds)) => {
+            *ends = bounds.into();
             *some = 1;
             0
         }
-        WholeBoxed::NoBox => {
+        Ok(None) => {
             *some = 0;
             0
         }
-        WholeBoxed::FrameBroken => 10,
-        WholeBoxed::RowsBroken(place) => {
-            *key = place.key;
-            *position = place.position;
-            11
-        }
-        WholeBoxed::AxisCount => 26,
-        WholeBoxed::ListLength => 21,
-        WholeBoxed::NotFinite => 27,
+        Err(refusal) => refused(refusal, key, position),
     }
 }

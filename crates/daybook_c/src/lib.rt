@@ -4,6 +4,7 @@
 mod boxed;
 mod salvaged;
 mod sheeted;
+mod told;
 mod worked;
 
 ghost use Rattle.std.specs.Prelude.{◌≡◌, cond, ◌||◌, ◌+◌, ◌<◌, length, eqb};
@@ -15,11 +16,10 @@ ghost use Rattle.rules.specs.Closures.{close_number, closures_after, steps_after
 
 use book::Place;
 pub use boxed::{daybook_box, daybook_whole_box};
-use daybook::{
-    Asked, Closed, Counted, Dropped, EulerNumber, Found, Listed, Loaded, Made, RowAnswer, Written,
-};
+use kinds::number_of;
 pub use salvaged::daybook_salvage;
 pub use sheeted::daybook_sheet;
+use told::{put_cell, refused};
 pub use worked::daybook_plain;
 
 // Loads a day file; with 7, 8 and 23 the cell is written.
@@ -29,27 +29,11 @@ pub fn daybook_load(file: &[u8], book: &mut [u32], cell: &mut u32) -> u32
     ensures words { book.new ≡ load_words file.now book.old }
 {
     match daybook::load(file, book) {
-        Loaded::Accepted => 0,
-        Loaded::FileTooShort => 1,
-        Loaded::NoDimension => 2,
-        Loaded::ManyVertices => 3,
-        Loaded::ManyCells => 4,
-        Loaded::SpareBits => 5,
-        Loaded::FileLength => 6,
-        Loaded::VertexOut(c) => {
-            *cell = c.0;
-            7
+        Ok(()) => 0,
+        Err(refusal) => {
+            put_cell(refusal, cell);
+            refusal.number()
         }
-        Loaded::VertexTwice(c) => {
-            *cell = c.0;
-            8
-        }
-        Loaded::CellTwice(c) => {
-            *cell = c.0;
-            23
-        }
-        Loaded::BitsAfter => 9,
-        Loaded::NoRoom => 13,
     }
 }
 
@@ -61,18 +45,8 @@ pub fn daybook_make(book: &mut [u32], d: u32, e: u32, key: &mut u32, position: &
     ensures words { book.new ≡ make_words book.old d e }
 {
     match daybook::make(book, d, e) {
-        Made::Accepted => 0,
-        Made::FrameBroken => 10,
-        Made::RowsBroken(place) => {
-            *key = place.key;
-            *position = place.position;
-            11
-        }
-        Made::DimensionOver => 12,
-        Made::AlreadyHeld => 14,
-        Made::NeedMissing => 15,
-        Made::NumberDiffers => 25,
-        Made::NoRoom => 13,
+        Ok(()) => 0,
+        Err(refusal) => refused(refusal, key, position),
     }
 }
 
@@ -84,16 +58,8 @@ pub fn daybook_ask(book: &mut [u32], d: u32, e: u32, key: &mut u32, position: &m
     ensures words { book.new ≡ ask_words book.old d e }
 {
     match daybook::ask(book, d, e) {
-        Asked::Accepted => 0,
-        Asked::FrameBroken => 10,
-        Asked::RowsBroken(place) => {
-            *key = place.key;
-            *position = place.position;
-            11
-        }
-        Asked::DimensionOver => 12,
-        Asked::NumberDiffers => 25,
-        Asked::NoRoom => 13,
+        Ok(()) => 0,
+        Err(refusal) => refused(refusal, key, position),
     }
 }
 
@@ -103,10 +69,7 @@ pub fn daybook_ask_list(book: &mut [u32], pairs: &[u32], answers: &mut [u32]) ->
     ensures answers { answers.new ≡ list_answers book.old pairs.now answers.old }
     ensures words { book.new ≡ list_words book.old pairs.now answers.old }
 {
-    match daybook::ask_list(book, pairs, answers) {
-        Listed::Accepted => 0,
-        Listed::PairsOff => 20,
-    }
+    number_of(&daybook::ask_list(book, pairs, answers))
 }
 
 // Takes d→e out of the book and gives back its room; with 11 the key and the position are written.
@@ -117,16 +80,8 @@ pub fn daybook_drop(book: &mut [u32], d: u32, e: u32, key: &mut u32, position: &
     ensures words { book.new ≡ drop_words book.old d e }
 {
     match daybook::drop_relation(book, d, e) {
-        Dropped::Accepted => 0,
-        Dropped::FrameBroken => 10,
-        Dropped::RowsBroken(place) => {
-            *key = place.key;
-            *position = place.position;
-            11
-        }
-        Dropped::DimensionOver => 12,
-        Dropped::NotHeld => 16,
-        Dropped::CellsKept => 24,
+        Ok(()) => 0,
+        Err(refusal) => refused(refusal, key, position),
     }
 }
 
@@ -158,22 +113,14 @@ pub fn daybook_row(
     ensures count { count.new ≡ cond (eqb result 0) (length (row_of book.now (rule.key d e) i)) count.old }
 {
     match daybook::row_answer(book, d, e, i) {
-        RowAnswer::Accepted => {
+        Ok(()) => {
             let k = book::key(d, e);
             let row = rows::row(book, k, i);
             *count = row.len();
             *start = place_of_row(book, k, i).0;
             0
         }
-        RowAnswer::FrameBroken => 10,
-        RowAnswer::DimensionOver => 12,
-        RowAnswer::NotHeld => 16,
-        RowAnswer::NoSuchEntity => 17,
-        RowAnswer::RowsBroken(place) => {
-            *key = place.key;
-            *position = place.position;
-            11
-        }
+        Err(refusal) => refused(refusal, key, position),
     }
 }
 
@@ -196,24 +143,12 @@ pub fn daybook_find(
     ensures read { read.new ≡ cond (eqb result 0) (find_read book.now d e i j) read.old }
 {
     match daybook::find(book, d, e, i, j) {
-        Found::Searched {
-            yes: found,
-            read: n,
-        } => {
-            *yes = found as u32;
-            *read = n;
+        Ok(found) => {
+            *yes = found.yes as u32;
+            *read = found.read;
             0
         }
-        Found::FrameBroken => 10,
-        Found::DimensionOver => 12,
-        Found::NotHeld => 16,
-        Found::NoSuchEntity => 17,
-        Found::RowsBroken(place) => {
-            *key = place.key;
-            *position = place.position;
-            11
-        }
-        Found::NoSuchIndex => 19,
+        Err(refusal) => refused(refusal, key, position),
     }
 }
 
@@ -232,17 +167,11 @@ pub fn daybook_write(
     ensures bytes { bytes.new ≡ write_bytes book.now bytes.old }
 {
     match daybook::write(book, bytes) {
-        Written::Bytes(n) => {
+        Ok(n) => {
             *length = n;
             0
         }
-        Written::FrameBroken => 10,
-        Written::RowsBroken(place) => {
-            *key = place.key;
-            *position = place.position;
-            11
-        }
-        Written::BufferTooShort => 18,
+        Err(refusal) => refused(refusal, key, position),
     }
 }
 
@@ -254,17 +183,11 @@ pub fn daybook_euler(book: &[u32], number: &mut i64, key: &mut u32, position: &m
     ensures value { number.new ≡ cond (eqb result 0) (euler_of book.now) number.old }
 {
     match daybook::euler(book) {
-        EulerNumber::Number(n) => {
+        Ok(n) => {
             *number = n;
             0
         }
-        EulerNumber::FrameBroken => 10,
-        EulerNumber::RowsBroken(place) => {
-            *key = place.key;
-            *position = place.position;
-            11
-        }
-        EulerNumber::NeedMissing => 15,
+        Err(refusal) => refused(refusal, key, position),
     }
 }
 
@@ -274,11 +197,11 @@ pub fn daybook_held_count(book: &[u32], count: &mut u32) -> u32
     ensures count { count.new ≡ cond (eqb result 0) (held_count book.now) count.old }
 {
     match daybook::held_count(book) {
-        Counted::Relations(n) => {
+        Ok(n) => {
             *count = n;
             0
         }
-        Counted::FrameBroken => 10,
+        Err(refusal) => refusal.number(),
     }
 }
 
@@ -300,16 +223,7 @@ pub fn daybook_closures(
     ensures bytes { masked.new ≡ bytes_after book.now counts.now closures.old steps.old masked.old }
 {
     match daybook::close(book, counts, closures, steps, masked) {
-        Closed::Accepted => 0,
-        Closed::FrameBroken => 10,
-        Closed::RowsBroken(place) => {
-            *key = place.key;
-            *position = place.position;
-            11
-        }
-        Closed::OneDimension => 12,
-        Closed::NeedMissing => 15,
-        Closed::ListLength => 21,
-        Closed::CountOutside => 22,
+        Ok(()) => 0,
+        Err(refusal) => refused(refusal, key, position),
     }
 }

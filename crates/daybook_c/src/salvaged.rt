@@ -2,8 +2,6 @@
 ghost use Rattle.std.specs.Prelude.{◌≡◌, cond, eqb};
 ghost use Rattle.rules.specs.Salvage.{saved_length, dropped_count, spare_was, pad_was, length_was, salvage_number, salvage_bytes, salvage_list};
 
-use daybook::Salvaged;
-
 // Saves what can be saved of a file; where accepted, the file written, the cells dropped, the length, how many were dropped, and 1 or 0 for spare bits, pad bits and a wrong length are written.
 pub fn daybook_salvage(
     file: &[u8],
@@ -25,7 +23,7 @@ pub fn daybook_salvage(
     ensures wrong { wrong_length.new ≡ cond (eqb result 0) (cond (length_was file.now) 1 0) wrong_length.old }
 {
     match daybook::salvage(file, out, dropped) {
-        Salvaged::Saved(saved) => {
+        Ok(saved) => {
             *length = saved.length;
             *count = saved.dropped;
             *spare = saved.spare as u32;
@@ -33,11 +31,6 @@ pub fn daybook_salvage(
             *wrong_length = saved.wrong_length as u32;
             0
         }
-        Salvaged::Short => 1,
-        Salvaged::NoDimension => 2,
-        Salvaged::ManyVertices => 3,
-        Salvaged::ManyCells => 4,
-        Salvaged::BufferTooShort => 18,
-        Salvaged::ListLength => 21,
+        Err(refusal) => refusal.number(),
     }
 }

@@ -2,33 +2,8 @@
 ghost use Rattle.std.specs.Prelude.{◌≡◌, cond, length, get_or, eqb};
 ghost use Rattle.rules.specs.Broken.{broken_key, broken_place};
 ghost use Rattle.rules.specs.Sheet.{rim_edges_of, rim_vertices_of, rim_length_of, sheet_answer, sheet_number, sheet_across, sheet_bytes, sheet_vertices, sheet_edges};
-ghost use Rattle.sheets.specs.Answers.{why_answer};
 
-use daybook::{NotSheet, Sheeted};
-
-// Writes why a book is not a sheet, and the vertex, edge or cell that shows it where there is one.
-fn put_why(off: NotSheet, why: &mut u32, which: &mut u32)
-    ensures why { why.new ≡ get_or (why_answer off) 1 why.old }
-    ensures which { which.new ≡ get_or (why_answer off) 2 which.old }
-{
-    match off {
-        NotSheet::Dimension => {
-            *why = 1;
-        }
-        NotSheet::Vertex(v) => {
-            *why = 2;
-            *which = v;
-        }
-        NotSheet::Edge(k) => {
-            *why = 3;
-            *which = k;
-        }
-        NotSheet::Cell(c) => {
-            *why = 4;
-            *which = c;
-        }
-    }
-}
+use crate::told::{put_why, refused};
 
 // For a sheet, the cells across, the rim's file and the maps back to the old vertices and edges are written, with the file's length and how many vertices and edges it has; with 28 why it is not a sheet, and which vertex, edge or cell shows it; with 11 the key and the position.
 pub fn daybook_sheet(
@@ -59,25 +34,15 @@ pub fn daybook_sheet(
     ensures old_edges { rim_edges.new ≡ sheet_edges book.now across.old rim.old rim_vertices.old rim_edges.old }
 {
     match daybook::sheet(book, across, rim, rim_vertices, rim_edges) {
-        Sheeted::Sheet(found) => {
+        Ok(found) => {
             *rim_length = found.length;
             *vertex_count = found.vertices;
             *edge_count = found.edges;
             0
         }
-        Sheeted::FrameBroken => 10,
-        Sheeted::RowsBroken(place) => {
-            *key = place.key;
-            *position = place.position;
-            11
+        Err(refusal) => {
+            put_why(refusal, why, which);
+            refused(refusal, key, position)
         }
-        Sheeted::NotSheet(off) => {
-            put_why(off, why, which);
-            28
-        }
-        Sheeted::NeedMissing => 15,
-        Sheeted::LongRim => 29,
-        Sheeted::BufferTooShort => 18,
-        Sheeted::ListLength => 21,
     }
 }

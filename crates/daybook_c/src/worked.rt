@@ -3,7 +3,7 @@ ghost use Rattle.std.specs.Prelude.{◌≡◌, cond, eqb};
 ghost use Rattle.rules.specs.Broken.{broken_key, broken_place};
 ghost use Rattle.rules.specs.Plain.{plain_number, plain_yes};
 
-use daybook::WorkedOut;
+use crate::told::refused;
 
 // Whether (e, j) is incident to (d, i), from the cells' vertex sets alone: where accepted, 1 or 0 is written; with 11 the key and the position.
 pub fn daybook_plain(
@@ -22,18 +22,10 @@ pub fn daybook_plain(
     ensures yes { yes.new ≡ cond (eqb result 0) (cond (plain_yes book.now d e i j) 1 0) yes.old }
 {
     match daybook::plain(book, d, e, i, j) {
-        WorkedOut::Incident(said) => {
+        Ok(said) => {
             *yes = said as u32;
             0
         }
-        WorkedOut::FrameBroken => 10,
-        WorkedOut::RowsBroken(place) => {
-            *key = place.key;
-            *position = place.position;
-            11
-        }
-        WorkedOut::DimensionOver => 12,
-        WorkedOut::NoSuchEntity => 17,
-        WorkedOut::NoSuchIndex => 19,
+        Err(refusal) => refused(refusal, key, position),
     }
 }

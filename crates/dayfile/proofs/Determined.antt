@@ -9,10 +9,11 @@ use Rattle.rules.specs.Lists.{joined}
 use Rattle.rules.specs.File.{field, head_length, put_file}
 use Rattle.rules.specs.Calls.{file_number, fault_cell}
 use Rattle.repeats.specs.Rows.{row_at}
-use Rattle.dayfile.specs.declared.kinds.Vertex.{Vertex}
-use Rattle.dayfile.specs.declared.kinds.Header.{Header}
-use Rattle.dayfile.specs.declared.kinds.Corners.{Corners}
-use Rattle.dayfile.specs.declared.kinds.Fault.{Fault}
+use Rattle.kinds.specs.declared.Vertex.{Vertex}
+use Rattle.dayfile.specs.declared.shapes.Header.{Header}
+use Rattle.dayfile.specs.declared.shapes.Corners.{Corners}
+use Rattle.std.specs.Prelude.{Result}
+use Rattle.kinds.specs.declared.refusals.Refusal.{Refusal}
 use Rattle.dayfile.specs.Faults.{fault_of, head_number}
 use Rattle.dayfile.specs.Numbers.{numbers}
 use Rattle.dayfile.specs.Words.{Put}
@@ -36,11 +37,11 @@ pub vertices-equal : (ns : List ℕ) (p q : List Vertex) → numbers p ≡ ns �
 vertices-equal ns p q e g = numbers-same p q (e ∙ sym g)
 
 -- the first fault of the head and the length
-pub head-faults-equal : (f : List ℕ) (a b : Fault) → a ≡ fault_of (head_number f) 0 → b ≡ fault_of (head_number f) 0 → a ≡ b
+pub head-faults-equal : (f : List ℕ) (a b : Result (Unit {0}) Refusal) → a ≡ fault_of (head_number f) 0 → b ≡ fault_of (head_number f) 0 → a ≡ b
 head-faults-equal f a b e g = e ∙ sym g
 
 -- the first fault
-pub faults-equal : (f : List ℕ) (a b : Fault) → a ≡ fault_of (file_number f) (fault_cell f) → b ≡ fault_of (file_number f) (fault_cell f) → a ≡ b
+pub faults-equal : (f : List ℕ) (a b : Result (Unit {0}) Refusal) → a ≡ fault_of (file_number f) (fault_cell f) → b ≡ fault_of (file_number f) (fault_cell f) → a ≡ b
 faults-equal f a b e g = e ∙ sym g
 
 -- the words in which cells are put down

@@ -12,7 +12,8 @@ use Rattle.rules.specs.File.{file_dim, file_vertices, file_cells, file_spare, le
 use Rattle.rules.specs.Calls.{file_number, fault_cell}
 use Rattle.rules.proofs.Tests.{cases}
 use Rattle.rules.proofs.FirstFault.{Passed, short, no-dimension, many-vertices, many-cells, spare-bits, wrong-length, vertex-out, vertex-twice, cell-repeated, bits-after, no-fault}
-use Rattle.dayfile.specs.Faults.{fault_number, first_faults, fault_of, head_number}
+use Rattle.kinds.specs.Refusals.{answer_number}
+use Rattle.dayfile.specs.Faults.{first_faults, fault_of, head_number}
 
 -- a number from 1 to 6 is the head's
 pub head_at : (f : List ℕ) (k : ℕ) → k < 7 → file_number f ≡ k → head_number f ≡ k
@@ -84,8 +85,8 @@ passed f z = record { long = long; some-dimension = some-dimension; few-vertices
     ]
 
 -- ---- the fault of such a number
-low_told : (n c : ℕ) → n < 7 → (fault_number (fault_of n 0) ≡ n) × (fault_of n 0 ≡ fault_of n c)
-unfolding fault_number fault_of first_faults
+low_told : (n c : ℕ) → n < 7 → (answer_number (fault_of n 0) ≡ n) × (fault_of n 0 ≡ fault_of n c)
+unfolding fault_of first_faults
 low_told zero c l = (refl, refl)
 low_told (suc zero) c l = (refl, refl)
 low_told (suc (suc zero)) c l = (refl, refl)
@@ -104,7 +105,7 @@ module _ (f : List ℕ) where
   ]
 
   -- it has the head's number
-  pub head-back : fault_number (fault_of (head_number f) 0) ≡ head_number f
+  pub head-back : answer_number (fault_of (head_number f) 0) ≡ head_number f
   head-back = elim head-cases [
     | inl p ↦ rw p.1 (low_told (file_number f) 0 p.0).0
     | inr z ↦ rw z (low_told 0 0 (omega arith)).0

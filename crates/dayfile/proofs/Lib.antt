@@ -1,9 +1,13 @@
 pub mod Answers
+pub mod Body
 pub mod Bounds
 pub mod Filled
 pub mod Four
 pub mod FourWords
 pub mod HeadFaults
+pub mod Lowest
 pub mod Network
 pub mod Numbers
 pub mod Determined
+pub mod Says
+pub mod Tested

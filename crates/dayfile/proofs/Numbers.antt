@@ -3,7 +3,7 @@ use mathlib.Core.Path.{◌≡◌, refl, sym, ap, ◌∙◌}
 use mathlib.Core.List.{List, [], ◌∷◌, map}
 use Prim.Native.Nat.{ℕ, zero, suc}
 use lib.ListN.{length, get_or, set, length-map, get_or-map}
-use Rattle.dayfile.specs.declared.kinds.Vertex.{Vertex}
+use Rattle.kinds.specs.declared.Vertex.{Vertex}
 use Rattle.dayfile.specs.Numbers.{numbers}
 
 pub length-numbers : (vs : List Vertex) → length (numbers vs) ≡ length vs

@@ -1,13 +1,8 @@
 -- The cells of a file as words, four words to a cell.
-use Rattle.std.specs.Prelude.{◌≡◌, List, ◌++◌, map, ℕ, ◌+◌, ◌-◌, ◌*◌, ◌≤◌, length, take, drop, replicate}
+use Rattle.std.specs.Prelude.{◌≡◌, List, ◌++◌, map, ℕ, ◌+◌, ◌-◌, ◌*◌, length, take, drop, replicate}
 use Rattle.rules.specs.Lists.{up_to, sorted}
 use Rattle.rules.specs.File.{file_dim, file_cell, head_dim, head_cells}
 use Rattle.repeats.specs.Rows.{row_at, rows_in}
-
--- there are 16384 words, room for the cells of a head
-pub record Fits (h : ℕ) (ws : List ℕ) : Type 0 where
-  pub most : head_cells h ≤ 4096
-  pub long : length ws ≡ 16384
 
 -- the four words of cell c: its vertices ascending, then zeros
 unfoldable pub four_words : List ℕ → ℕ → List ℕ

@@ -3,12 +3,12 @@
 
 mod faults;
 mod head;
-mod kinds;
 mod reading;
+mod shapes;
 mod written;
 
 pub use faults::{body_fault, head_fault, out_of, put_cell};
-pub use head::{cells, dimension, end_bit, header, length, spare, vertices};
-pub use kinds::{Cell, Corners, Fault, Header, Vertex};
+pub use head::{HEAD_BITS, VERTEX_BITS, header};
 pub use reading::{ascending, cell, in_file};
+pub use shapes::{Corners, Header};
 pub use written::write;

@@ -2,60 +2,29 @@
 // A read that fails is told on standard error, and nothing is written.
 #![tactic(auto)]
 
-ghost use Rattle.std.specs.Prelude.{◌*◌, ◌≤◌, IfOk, length};
+ghost use Rattle.std.specs.Prelude.{◌*◌, ◌≤◌, length};
 
-use std::fmt;
-use std::io::{self, Read, Write};
+use std::io::Write;
+use streams::{Failure, read_full};
 use telling::Outcome;
 
-// A stream that failed, and how.
-#[derive(Drop)]
-enum Failure {
-    Input(io::Error),
-    Output(io::Error),
-}
-
-// What is told on standard error.
-impl fmt::Debug for Failure {
-    fn fmt<W: fmt::Write>(&self, f: &mut fmt::Formatter<W>) -> fmt::Result {
-        match self {
-            Failure::Input(error) => write!(f, "standard input: {error}"),
-            Failure::Output(error) => write!(f, "standard output: {error}"),
-        }
+// Writes a line for each run of dropped cells. Where the next run begins the last one says, so no range counts the turns.
+fn tell_runs(people: &mut impl Write, dropped: &[u32]) {
+    let mut line = [0u8; 79];
+    let mut rest = dropped;
+    while rest.len() >= 2 {
+        let run = telling::tell_run(rest, &mut line);
+        let _ = people.write_all(&line[..run.length]);
+        rest = &rest[2 * run.cells..];
     }
-}
-
-// Reads until the input has ended or the bytes are full. Gives how many bytes were read.
-fn read_full(input: &mut impl Read, bytes: &mut [u8]) -> io::Result<usize>
-    ensures { IfOk result (λ n. n ≤ length bytes.new) }
-{
-    let mut size: usize = 0;
-    while size < bytes.len() {
-        let n = input.read(&mut bytes[size..])?;
-        if n == 0 {
-            break;
-        }
-        size += n;
-    }
-    Ok(size)
 }
 
 // Writes the words for people: a line for each run of dropped cells, and the last words.
 fn tell(people: &mut impl Write, dropped: &[u32], outcome: Outcome)
     requires { 2 * outcome.dropped ≤ length dropped.now }
 {
-    let mut line = [0u8; 79];
+    tell_runs(people, &dropped[..2 * outcome.dropped as usize]);
     let mut words = [0u8; 148];
-    let count = outcome.dropped as usize;
-    let end = 2 * count;
-    let mut i: usize = 0;
-    while i < count {
-        let start = 2 * i;
-        let run = telling::tell_run(&dropped[start..end], &mut line);
-        let length = run.length;
-        let _ = people.write_all(&line[..length]);
-        i += run.cells;
-    }
     let length = telling::last_words(outcome, &mut words);
     let _ = people.write_all(&words[..length]);
 }

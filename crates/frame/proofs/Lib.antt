@@ -1,4 +1,3 @@
-pub mod Listed
-pub mod FrameLeft
+pub mod SoFar
 pub mod Naming
 pub mod Determined

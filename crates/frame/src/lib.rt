@@ -1,40 +1,66 @@
 // The frame rule: word 0, the keys, the numbers N_1 and N_2, and the used length.
 #![tactic(auto)]
 
-ghost use Rattle.std.specs.Prelude.{◌≡◌, ◌&&◌, ◌/◌, ◌%◌, ◌≤◌, ◌<◌, length, get_or, eqb, leb};
-ghost use Rattle.rules.specs.Lists.{all_of, filled};
+ghost use Rattle.std.specs.Prelude.{◌≡◌, ℕ, List, take, ◌&&◌, ◌≤◌, ◌<◌, length, get_or, eqb, leb};
+ghost use Rattle.rules.specs.Lists.{all_of};
 ghost use Rattle.rules.specs.Book as rule;
 
-use book::{Place, count, dim, held, key, place_of, word};
+use book::{Place, count, dim, held, key, most, place_of, word};
+use std::marker::Model;
 
-// The keys of what a relation is made from, in order, with zeros behind them, and how many they are.
-#[derive(Clone, Copy)]
+// The keys of what a relation is made from, in their order.
+#[derive(Drop)]
 pub struct Needs {
-    pub keys: [u32; 3],
-    pub count: usize,
+    keys: [u32; 3],
+    count: usize,
 }
 
+impl Model for Needs {
+    ghost Value = { List ℕ };
+
+    ghost view = { λ n. take n.count n.keys };
+
+    ghost invariant = { λ n. n.count ≤ 3 };
+}
+
+impl Needs {
+    // The keys, as a slice.
+    pub fn keys(&self) -> &[u32]
+        ensures { result.now ≡ self.now }
+    {
+        &self.keys[..self.count]
+    }
+}
+
+// The words before the first relation.
+const HEAD: usize = 5;
+
+// The most vertices of a mesh.
+const MOST_VERTICES: u32 = 8192;
+
+// The most cells of a mesh.
+const MOST_CELLS: u32 = 4096;
+
+// The masks of the sixteen keys lie below this.
+const MASKS: u32 = 65536;
+
 // Whether word 0 obeys refusals 2 to 5.
-fn head_right(head: u32) -> bool
-    ensures { result ≡ rule.head_right head }
+fn head_right(book: &[u32]) -> bool
+    ensures { result ≡ rule.head_right (get_or book.now 0 0) }
 {
-    if head / 1073741824 == 0 {
+    let top = dim(book);
+    if top == 0 {
         return false;
     }
-    if head / 65536 % 16384 > 8192 {
-        return false;
-    }
-    if head / 8 % 8192 > 4096 {
-        return false;
-    }
-    head % 8 == 0
+    count(book, 0) <= MOST_VERTICES
+        && count(book, top) <= MOST_CELLS
+        && word(book, Place(0)) % 8 == 0
 }
 
 // What d→e is made from, where D is `top`.
 pub fn needs_of(top: u32, d: u32, e: u32) -> Needs
     requires { (top ≤ 3) × ((d ≤ 3) × (e ≤ 3)) }
-    ensures keys { result.keys ≡ filled 3 (rule.needs top d e) }
-    ensures count { result.count ≡ length (rule.needs top d e) }
+    ensures { result ≡ rule.needs top d e }
 {
     if e == 0 {
         if d == 0 {
@@ -77,36 +103,14 @@ fn key_right(book: &[u32], k: u32) -> bool
     ensures { result ≡ rule.key_right book.now k }
 {
     let top = dim(book);
-    if k / 4 > top {
-        return false;
-    }
-    k % 4 <= top
+    k / 4 <= top && k % 4 <= top
 }
 
 // Whether each key held is right.
 fn keys_right(book: &[u32]) -> bool
     ensures { result ≡ all_of (rule.key_right book.now) (rule.keys_held book.now) }
 {
-    let mut k: u32 = 0;
-    while k < 16 {
-        if held(book, k) {
-            if !key_right(book, k) {
-                return false;
-            }
-        }
-        k += 1;
-    }
-    true
-}
-
-// The most entities of dimension d that a cell has, where D is `top`.
-fn most(top: u32, d: u32) -> u32
-    ensures { result ≡ rule.most top d }
-{
-    if top == 2 {
-        return 3;
-    }
-    if d == 1 { 6 } else { 4 }
+    (0..16).all(|k| !held(book, k) || key_right(book, k))
 }
 
 // The keys that name d, as their first or their second dimension, by d: the sum of 2^key over them.
@@ -145,36 +149,19 @@ fn used_right(book: &[u32]) -> bool
     ensures { result ≡ (leb (get_or book.now 4 0) (length book.now) && eqb (rule.place book.now 16) (get_or book.now 4 0)) }
 {
     let used = word(book, Place(4)) as usize;
-    if used > book.len() {
-        return false;
-    }
-    place_of(book, 16).0 == used
+    used <= book.len() && place_of(book, 16).0 == used
 }
 
 // The frame rule.
 pub fn frame_right(book: &[u32]) -> bool
     ensures { result ≡ rule.frame_right book.now }
 {
-    if book.len() < 5 {
-        return false;
-    }
-    if !head_right(word(book, Place(0))) {
-        return false;
-    }
-    if word(book, Place(1)) >= 65536 {
-        return false;
-    }
-    if !keys_right(book) {
-        return false;
-    }
-    if !held(book, key(dim(book), 0)) {
-        return false;
-    }
-    if !count_right(book, 1) {
-        return false;
-    }
-    if !count_right(book, 2) {
-        return false;
-    }
-    used_right(book)
+    book.len() >= HEAD
+        && head_right(book)
+        && word(book, Place(1)) < MASKS
+        && keys_right(book)
+        && held(book, key(dim(book), 0))
+        && count_right(book, 1)
+        && count_right(book, 2)
+        && used_right(book)
 }

@@ -7,7 +7,6 @@ use lib.ListN.{length, take}
 use Rattle.rules.specs.Lists.{inside}
 use Rattle.rules.specs.Made.{listed_at}
 use Rattle.rules.proofs.First.{keep_same, keep-length}
-use Rattle.rules.proofs.Slices.{part-front}
 use Rattle.relations.specs.Words.{part, row_at, Rows, start_of}
 use Rattle.intersecting.specs.Inner.{lies_in, inner_row}
 use Rattle.merging.specs.Near.{Through, Stand}
@@ -16,11 +15,6 @@ use native.Mathlib.Omega.{arith}
 use Rattle.merging.specs.Merge.{parts, merged}
 use Rattle.merging.proofs.Front.{listed_at-same}
 use Rattle.merging.proofs.Standing.{stand-listed, row_below, row_ends, vertices}
-
-pub lies_in-front : (vs ws : List ℕ) (k : ℕ) → take k vs ≡ take k ws → {at n : ℕ} → Rows ws at n k → (a m : ℕ) → a + m ≤ k → (i : ℕ) → i < n
-    → lies_in vs at n a m i ≡ lies_in ws at n a m i
-unfolding lies_in part
-lies_in-front vs ws k e r a m l i h = rw (row_at-front vs ws k e r i h, part-front vs ws k e a m l)
 
 module _ (vs ws : List ℕ) (m : ℕ) (e : take m vs ≡ take m ws) (own n back v : ℕ) (c : Through ws own n back v m) where
   pub inner_row-front : (sub b : ℕ) → Rows ws sub b m → (i : ℕ) → i < n → inner_row vs own n back v sub b i ≡ inner_row ws own n back v sub b i

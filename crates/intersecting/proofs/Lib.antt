@@ -1,4 +1,4 @@
 -- Laws for the proofs of this crate.
-mod Inside
+mod Tests
 mod InnerRows
 mod Made

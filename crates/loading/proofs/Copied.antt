@@ -1,25 +1,25 @@
--- The vertices of a cell that is put down, written word by word.
+-- The first vertices of a cell that is put down, copied into the book.
 use mathlib.Core.Path.{◌≡◌, sym}
-use mathlib.Core.List.{List, [], ◌∷◌, ◌++◌}
-use Prim.Native.Nat.{ℕ, ◌+◌, ◌*◌, ◌≤◌, ◌<◌}
-use native.Mathlib.Numerals.{add-one}
+use mathlib.Core.List.{List, append_assoc}
+use Prim.Native.Nat.{ℕ, ◌+◌, ◌-◌, ◌*◌, ◌≤◌}
 use native.Mathlib.Omega.{arith}
-use lib.ListN.{length, get_or, take, drop, set, length-drop}
-use lib.Seq.{take-suc, take-take, get_or-drop}
+use lib.ListN.{length, take, drop, length-drop}
+use lib.Seq.{take_at, take-take, drop-drop, length-take-le}
+use borrow.Rule.Slice.PartMut.{put_mid}
 use Rattle.repeats.specs.Rows.{row_at}
 use Rattle.relations.specs.Words.{Written}
-use Rattle.relations.proofs.Appended.{written-more}
 
--- of n words from `first` on k are written, and one more
-pub copied_more : (ws words : List ℕ) (start first n k : ℕ) (vs : List ℕ) → first + n ≤ length words → k < n → Written ws start (take k (drop first words)) (start + k) vs
-    → Written ws start (take (k + 1) (drop first words)) (start + (k + 1)) (set vs (start + k) (get_or words (first + k) 0))
-copied_more ws words start first n k vs f l w =
-    let g : take (k + 1) (drop first words) ≡ take k (drop first words) ++ (get_or words (first + k) 0 ∷ [])
-    = rw (add-one k, ← get_or-drop first words k 0) (take-suc (drop first words) k 0 (simp length-drop (omega arith))) in
-    let a : start + k + 1 ≡ start + (k + 1) = omega arith in
-    rw (g, ← a) (written-more w (get_or words (first + k) 0))
+-- n words put over as many from a place on
+pub put-over : (ws new : List ℕ) (at n : ℕ) → length new ≡ n → at + n ≤ length ws → Written ws at new (at + n) (put_mid at (at + n - at) ws new)
+put-over ws new at n e l =
+    let m : at + n - at ≡ n = omega arith in
+    record {
+      place = omega arith;
+      front = take_at (take at ws) _ at (length-take-le at ws (omega arith));
+      words = λ k. rw (m, drop-drop n at ws) (sym (append_assoc (take at ws) new (drop (at + n) ws)));
+    }
 
--- the first words of a cell's four
-pub copied-row : (words : List ℕ) (c n : ℕ) → n ≤ 4 → take n (drop (4 * c) words) ≡ take n (row_at 4 words c)
+-- the first words of a cell's four, which are all there
+pub cell-words : (words : List ℕ) (c n : ℕ) → n ≤ 4 → 4 * c + n ≤ length words → (take n (drop (4 * c) words) ≡ take n (row_at 4 words c)) × (length (take n (drop (4 * c) words)) ≡ n)
 unfolding row_at
-copied-row words c n l = sym (take-take n 4 (drop (4 * c) words) l)
+cell-words words c n l m = (sym (take-take n 4 (drop (4 * c) words) l), length-take-le n (drop (4 * c) words) (rw length-drop (omega arith)))

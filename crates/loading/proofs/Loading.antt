@@ -13,8 +13,10 @@ use Rattle.rules.specs.Calls.{Rule, first_broken, loaded, file_rules, file_numbe
 use Rattle.rules.proofs.Tests.{left, right}
 use Rattle.rules.proofs.Head.{head-cells, head-dim}
 use Rattle.rules.proofs.LoadedWords.{loaded-length}
-use Rattle.dayfile.specs.declared.kinds.Fault.{Fault}
-use Rattle.dayfile.specs.Faults.{fault_number, cell_number, fault_of}
+use Rattle.std.specs.Prelude.{Result}
+use Rattle.kinds.specs.declared.refusals.Refusal.{Refusal}
+use Rattle.kinds.specs.Refusals.{answer_number, answer_cell}
+use Rattle.dayfile.specs.Faults.{fault_of}
 use Rattle.dayfile.proofs.Answers.{number-back, cell-back}
 
 -- the first broken of two lists of rules, none of whose answers is 0
@@ -51,22 +53,22 @@ pub record Gives (f ws : List ℕ) (number cell : ℕ) (vs : List ℕ) : Type 0 
   pub cell-is : cell ≡ load_cell f ws
   pub words_are : vs ≡ load_words f ws
 
-module _ (f ws : List ℕ) (fault : Fault) (found : fault ≡ fault_of (file_number f) (fault_cell f)) where
-  number_is : fault_number fault ≡ file_number f
-  number_is = ap fault_number found ∙ number-back f
+module _ (f ws : List ℕ) (fault : Result (Unit {0}) Refusal) (found : fault ≡ fault_of (file_number f) (fault_cell f)) where
+  number_is : answer_number fault ≡ file_number f
+  number_is = ap answer_number found ∙ number-back f
 
   -- a fault of the file
-  pub faulty : (fault_number fault ≡ 0 → ⊥) → Gives f ws (fault_number fault) (cell_number fault) ws
+  pub faulty : (answer_number fault ≡ 0 → ⊥) → Gives f ws (answer_number fault) (answer_cell fault) ws
   faulty q =
       let n : eqb (file_number f) 0 ≡ false = ne_eqb (file_number f) 0 (λ e. q (number_is ∙ e)) in
       let e : load_number f ws ≡ file_number f = load-splits f ws ∙ rw n in
       record {
         number_is = number_is ∙ sym e;
-        cell-is = ap cell_number found ∙ cell-back f ∙ sym (cell-of f ws (file_number f) e);
+        cell-is = ap answer_cell found ∙ cell-back f ∙ sym (cell-of f ws (file_number f) e);
         words_are = sym (words_of f ws (file_number f) e ∙ rw n);
       }
 
-  module _ (q : fault_number fault ≡ 0) where
+  module _ (q : answer_number fault ≡ 0) where
     sound : eqb (file_number f) 0 ≡ true
     sound = eq-eqb (file_number f) 0 (sym number_is ∙ q)
 

@@ -34,7 +34,7 @@ power (suc (suc (suc (suc d)))) l = absurd (omega arith)
 -- a file without a fault in its head, its cells put down, and a book with room
 pub filling : (f was words book : List ℕ) → head_number f ≡ 0 → Put f was words (file_cells f) → length (loaded f) ≤ length book → Filling f words book
 filling f was words book z p l = record {
-  fits = record { most = rw (head-cells f) (passed f z).few-cells; long = p.long };
+  few = rw (head-cells f) (passed f z).few-cells;
   cells = cells_are f was words (field f 0 32) refl (rw (head-cells f) p);
   room = l;
 }

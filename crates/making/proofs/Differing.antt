@@ -20,7 +20,8 @@ use Rattle.rules.proofs.FrameRule.{framed}
 use Rattle.rules.proofs.AskedMask.{asked-held, mask-there, mask_next, mask-new}
 use Rattle.relations.specs.declared.Source.{Source}
 use Rattle.relations.specs.Ready.{Ready, Stands}
-use Rattle.building.specs.Cells as cells
+use Rattle.building.specs.Cells as given
+use Rattle.making.proofs.Dispatch.{cells-source}
 use Rattle.making.specs.Growth.{Maskable}
 use Rattle.making.proofs.Walk.{was-on, was-off, next_small}
 
@@ -49,7 +50,7 @@ module _ (ws : List ℕ) (x : ℕ) where
 
   -- x→0 can be built
   pub findable : Right ws → 0 < x → x < dim ws → (D : ℕ) → D ≡ dim ws → (s : Source) → Stands ws D 0 s
-      → Ready ws x 0 (get_or ws 4 0) × (cells.Source ws D s.at.0 s.rows × (0 < x))
+      → Ready ws x 0 (get_or ws 4 0) × (given.Source ws s.from s.at.0 s.rows × (0 < x))
   findable r p l D t s h =
       let f = framed ws r.frame in (
         record {
@@ -61,7 +62,7 @@ module _ (ws : List ℕ) (x : ℕ) where
           below = λ e z. omega arith;
           used = refl;
         },
-        (record { top = t; stands = h.at; rows = h.rows }, p),
+        (cells-source t h, p),
       )
 
 -- ---- the mask at the end of an ask

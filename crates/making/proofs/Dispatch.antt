@@ -1,5 +1,5 @@
 -- Each of the five makers is asked for what it makes, and what it writes is d→e.
-use mathlib.Core.Path.{◌≡◌, refl, sym}
+use mathlib.Core.Path.{◌≡◌, refl, sym, ◌∙◌}
 use mathlib.Core.List.{List}
 use Prim.Native.Nat.{ℕ, ◌≤◌, ◌<◌}
 use native.Mathlib.Omega.{arith}
@@ -10,12 +10,16 @@ use Rattle.rules.proofs.FrameRule.{framed}
 use Rattle.relations.specs.declared.Source.{Source}
 use Rattle.relations.specs.Words.{Written}
 use Rattle.relations.specs.Ready.{Ready, Stands}
-use Rattle.building.specs.Cells as cells
+use Rattle.building.specs.Cells as given
 use Rattle.making.specs.Growth.{Appends}
 
 -- a source under equal names
 named : (ws : List ℕ) (d e x y : ℕ) (s : Source) → x ≡ d → y ≡ e → Stands ws d e s → Stands ws x y s
 named ws d e x y s p q h = rw (p, q) h
+
+-- D→0 as Build asks for it
+pub cells-source : {ws : List ℕ} {D : ℕ} {s : Source} → D ≡ dim ws → Stands ws D 0 s → given.Source ws s.from s.at.0 s.rows
+cells-source t h = record { top = h.from ∙ t; stands = rw h.from h.at; rows = rw h.from h.rows }
 
 module _ (ws : List ℕ) (d e u : ℕ) (r : Ready ws d e u) where
   pub low : (d ≤ 3) × ((e ≤ 3) × (dim ws ≤ 3))
@@ -25,8 +29,8 @@ module _ (ws : List ℕ) (d e u : ℕ) (r : Ready ws d e u) where
   same x y p q = rw (p, q) r
 
   -- d→0 with d > 0, by Build
-  pub for-sets : e ≡ 0 → 0 < d → (D : ℕ) → D ≡ dim ws → (s : Source) → Stands ws D 0 s → Ready ws d 0 u × (cells.Source ws D s.at.0 s.rows × (0 < d))
-  for-sets q l D t s h = (rw q at r, (record { top = t; stands = h.at; rows = h.rows }, l))
+  pub for-sets : e ≡ 0 → 0 < d → (D : ℕ) → D ≡ dim ws → (s : Source) → Stands ws D 0 s → Ready ws d 0 u × (given.Source ws s.from s.at.0 s.rows × (0 < d))
+  for-sets q l D t s h = (rw q at r, (cells-source t h, l))
 
   pub sets : e ≡ 0 → (end n : ℕ) (vs : List ℕ) → Written ws u (relation (made ws d 0)) end vs → n ≡ length (made ws d 0) → Appends ws d e u end n vs
   sets q end n vs w c = record { written = rw q w; count = λ a b. rw q c }

@@ -21,7 +21,10 @@ use Rattle.relations.specs.Words.{Written}
 use Rattle.relations.specs.Ready.{Ready}
 use Rattle.settle.specs.Settled.{Within, settled, cleared, headed}
 use Rattle.settle.proofs.Placed.{cleared-back, placed}
-use Rattle.making.specs.Growth.{Makable, Appends, grown}
+use Rattle.std.specs.Prelude.{Ok, Err}
+use Rattle.kinds.specs.declared.refusals.Refusal.TheVariants.{NoRoom}
+use Rattle.making.specs.Growth.{Makable, Appends, room_answer, grown}
+use Rattle.making.proofs.Room.{room-fits, room-none}
 
 -- ---- N_x after a make
 pub count-new : (ws : List ℕ) (d e n x : ℕ) → e ≡ 0 → d ≡ x → d < dim ws → n ≡ count_after ws d e n x
@@ -111,11 +114,11 @@ module _ (ws : List ℕ) (d e : ℕ) (m : Makable ws d e) where
     end_fits = rw w.place (make-below ws f m.rows d e m.first m.second m.new)
 
     -- it does not fit: the free words are cleared
-    pub stays : length vs < end → (us : List ℕ) → us ≡ cleared u vs → (false ≡ leb (length (added ws d e)) (length ws)) × (us ≡ grown ws d e)
+    pub stays : length vs < end → (us : List ℕ) → us ≡ cleared u vs → (Err NoRoom ≡ room_answer (added ws d e) ws) × (us ≡ grown ws d e)
     unfolding grown
     stays l us q =
         let z : leb (length (added ws d e)) (length ws) ≡ false = lt-leb (length (added ws d e)) (length ws) (omega (arith, added-length)) in
-        (sym z, q ∙ ap (λ (x : ℕ). cleared x vs) used ∙ cleared-back ws right d e key-low vs size w.front ∙ rw z)
+        (room-none (added ws d e) ws z, q ∙ ap (λ (x : ℕ). cleared x vs) used ∙ cleared-back ws right d e key-low vs size w.front ∙ rw z)
 
     -- words 0 to 4 stand
     head-stands : (i : ℕ) → i < 5 → get_or vs i 0 ≡ get_or ws i 0
@@ -133,7 +136,7 @@ module _ (ws : List ℕ) (d e : ℕ) (m : Makable ws d e) where
       )
 
       pub grows : (mask edges faces : ℕ) → mask ≡ get_or ws 1 0 + 2 ^ key d e → edges ≡ count_after vs d e n 1 → faces ≡ count_after vs d e n 2
-          → (ss us : List ℕ) → ss ≡ settled at u end vs → us ≡ headed mask edges faces end ss → (true ≡ leb (length (added ws d e)) (length ws)) × (us ≡ grown ws d e)
+          → (ss us : List ℕ) → ss ≡ settled at u end vs → us ≡ headed mask edges faces end ss → (Ok (record {}) ≡ room_answer (added ws d e) ws) × (us ≡ grown ws d e)
       unfolding grown
       grows mask edges faces p b c ss us s q =
           let z : leb (length (added ws d e)) (length ws) ≡ true = le-leb (length (added ws d e)) (length ws) (omega (arith, added-length)) in
@@ -143,4 +146,4 @@ module _ (ws : List ℕ) (d e : ℕ) (m : Makable ws d e) where
           let i = b ∙ count-stands 1 (omega arith) (omega arith) in
           let j = c ∙ count-stands 2 (omega arith) (omega arith) in
           let g : headed mask edges faces end ss ≡ filled (length ws) (added ws d e) = rw (s, p, i, j, stood, used, w.words x, w.place) r in
-          (sym z, q ∙ (g ∙ rw z))
+          (room-fits (added ws d e) ws z, q ∙ (g ∙ rw z))

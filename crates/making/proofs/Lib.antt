@@ -1,4 +1,5 @@
 -- Laws for the proofs of this crate, and for those who call it.
+pub mod Room
 pub mod Grown
 mod Dispatch
 mod Walk

@@ -1,6 +1,6 @@
 -- On the way to key k: each make goes one relation further, or shows that Ask does not fit; and the way back.
 use mathlib.Core.Path.{◌≡◌, refl, sym, ◌∙◌}
-use mathlib.Core.Bool.{Bool, true, false, not, true≢false}
+use mathlib.Core.Bool.{Bool, true, false, not}
 use mathlib.Core.List.{List, [], ◌∷◌}
 use Prim.Native.Nat.{ℕ, ◌+◌, ◌-◌, ◌/◌, ◌%◌, ◌^◌, ◌≤◌, ◌<◌}
 use native.Mathlib.Omega.{arith}
@@ -16,8 +16,11 @@ use Rattle.rules.proofs.FrameRule.{Framed, framed}
 use Rattle.rules.proofs.Needs.{key-again}
 use Rattle.rules.proofs.LoadedWords.{get_or-filled}
 use Rattle.rules.proofs.Growing.{Grown, Under, under-start, under-held, under-fits, under_more, under-stuck, next-new, next-needed, next-first, next-second, back-again}
+use Rattle.std.specs.Prelude.{Result, Ok, Err, is_err}
+use Rattle.kinds.specs.declared.refusals.Refusal.{Refusal}
 use Rattle.settle.specs.Settled.{Leaves}
-use Rattle.making.specs.Growth.{Makable, grown, Askable, wanted, Keeps, Holds, answered}
+use Rattle.making.specs.Growth.{Makable, room_answer, grown, Askable, wanted, Keeps, Holds, answered}
+use Rattle.making.proofs.Room.{room-fits, room-none, room-test}
 use Rattle.making.proofs.Walk.{was-on, was-off}
 
 -- a book with d→e made where it fits, by cases
@@ -63,12 +66,12 @@ module _ (ws : List ℕ) (k : ℕ) (a : Askable ws k) where
     }
 
     -- it is held
-    pub done : (b : Bool) → b ≡ held vs k → not b ≡ false → Holds ws k true vs
+    pub done : (b : Bool) → b ≡ held vs k → not b ≡ false → Holds ws k (Ok (record {})) vs
     unfolding wanted
     done b q o =
         let h : held vs k ≡ true = sym q ∙ was-on b o in
         record {
-          fits = sym (le-leb _ _ (under-fits ws right k a.first a.second vs u h));
+          fits = room-fits _ _ (le-leb _ _ (under-fits ws right k a.first a.second vs u h));
           words = λ t. under-held ws right k a.first a.second vs u h;
           keeps = keeps;
         }
@@ -88,23 +91,23 @@ module _ (ws : List ℕ) (k : ℕ) (a : Askable ws k) where
         sources = rw z (next-needed ws right k a.first a.second vs u off);
       }
 
-      module _ (r : Bool) (s : r ≡ leb (length (added vs (y / 4) (y % 4))) (length vs)) (us : List ℕ) (t : us ≡ grown vs (y / 4) (y % 4)) where
-        pub stuck : not r ≡ true → Holds ws k false us
+      module _ (us : List ℕ) (t : us ≡ grown vs (y / 4) (y % 4)) where
+        pub stuck : (r : Refusal) → Err r ≡ room_answer (added vs (y / 4) (y % 4)) vs → Holds ws k (Err r) us
         unfolding wanted
-        stuck n =
-            let x : leb (length (added vs (y / 4) (y % 4))) (length vs) ≡ false = sym s ∙ was-off r n in
+        stuck r s =
+            let x : leb (length (added vs (y / 4) (y % 4))) (length vs) ≡ false = room-test _ _ (Err r) s in
             let m : length vs < length (added vs (y / 4) (y % 4)) = leb-false (length (added vs (y / 4) (y % 4))) (length vs) x in
             let l = rw z at m in
             let e : us ≡ vs = t ∙ grown-none vs (y / 4) (y % 4) x in
             record {
-              fits = sym (lt-leb _ _ (under-stuck ws right k a.first a.second vs u off l));
-              words = λ t. absurd (true≢false (sym t));
+              fits = s ∙ sym (room-none _ _ x) ∙ room-none _ _ (lt-leb _ _ (under-stuck ws right k a.first a.second vs u off l));
+              words = λ t. cc;
               keeps = rw e keeps;
             }
 
-        module _ (n : not r ≡ false) where
+        module _ (s : Ok (record {}) ≡ room_answer (added vs (y / 4) (y % 4)) vs) where
           fit : leb (length (added vs (y / 4) (y % 4))) (length vs) ≡ true
-          fit = sym s ∙ was-on r n
+          fit = room-test _ _ (Ok (record {})) s
 
           more : us ≡ filled (length vs) (added vs (y / 4) (y % 4))
           more = t ∙ grown-more vs (y / 4) (y % 4) fit
@@ -119,12 +122,17 @@ module _ (ws : List ℕ) (k : ℕ) (a : Askable ws k) where
           less = rw (more, second_word) (omega (arith, f.mask, pow_pos (key (y / 4) (y % 4))))
 
   -- ---- the answer
-  module _ (r : Bool) (vs : List ℕ) (h : Holds ws k r vs) where
-    pub all_held : r ≡ true → (true ≡ leb (length (wanted ws k)) (length ws)) × (vs ≡ answered ws k)
-    unfolding answered
-    all_held t = let q = sym t ∙ h.fits in (q, h.words t ∙ rw (sym q))
+  module _ (r : Result (Unit {0}) Refusal) (vs : List ℕ) (h : Holds ws k r vs) where
+    test : leb (length (wanted ws k)) (length ws) ≡ not (is_err r)
+    test = room-test _ _ r h.fits
 
-    module _ (n : r ≡ false) where
+    pub all_held : is_err r ≡ false → vs ≡ answered ws k
+    unfolding answered
+    all_held o =
+        let z : leb (length (wanted ws k)) (length ws) ≡ true = test ∙ rw o in
+        h.words (h.fits ∙ sym (room-fits _ _ z)) ∙ rw z
+
+    module _ (o : is_err r ≡ true) where
       pub leaves : (m : ℕ) → m ≡ get_or ws 1 0 → Leaves vs m
       leaves m q = record {
         frame = h.keeps.frame;
@@ -132,13 +140,13 @@ module _ (ws : List ℕ) (k : ℕ) (a : Askable ws k) where
         holds = λ j l. h.keeps.holds j (unfold held in rw q at l);
       }
 
-      pub given-back : (head us : List ℕ) → head ≡ take 5 ws → us ≡ given_back head vs → (false ≡ leb (length (wanted ws k)) (length ws)) × (us ≡ answered ws k)
+      pub given-back : (head us : List ℕ) → head ≡ take 5 ws → us ≡ given_back head vs → us ≡ answered ws k
       unfolding answered
       given-back head us e q =
-          let z = sym n ∙ h.fits in
+          let z : leb (length (wanted ws k)) (length ws) ≡ false = test ∙ rw o in
           let g : Grown ws vs = record { size = h.keeps.size; first = h.keeps.first; keeps = h.keeps.holds; rows = h.keeps.same } in
           let same : given_back head vs ≡ ws = rw e (back-again ws vs right g) in
-          (z, q ∙ (same ∙ rw (sym z)))
+          q ∙ (same ∙ rw z)
 
 -- the five words of a head
 pub five-words : (ws : List ℕ) → 5 ≤ length ws → (v w x y z : ℕ) → v ≡ get_or ws 0 0 → w ≡ get_or ws 1 0 → x ≡ get_or ws 2 0 → y ≡ get_or ws 3 0 → z ≡ get_or ws 4 0

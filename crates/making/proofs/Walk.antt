@@ -1,20 +1,19 @@
--- The key to make next, step by step: the needs listed in an array are those of the rules, and every key on the way is below 16.
-use mathlib.Core.Path.{◌≡◌, refl, sym, ap, ◌∙◌}
+-- The key to make next, step by step: a search among the needs, and every key on the way is below 16.
+use mathlib.Core.Path.{◌≡◌, refl, sym}
 use mathlib.Core.Bool.{Bool, true, false, cond, not, true≢false}
 use mathlib.Core.List.{List, [], ◌∷◌}
 use Prim.Native.Nat.{ℕ, zero, suc, ◌+◌, ◌-◌, ◌*◌, ◌/◌, ◌%◌, ◌≤◌, ◌<◌}
-use native.Mathlib.Numerals.{add-one}
 use native.Mathlib.Omega.{arith}
-use lib.ListN.{length, get_or, drop, length-append, length-replicate, drop_of_length-le}
-use lib.Seq.{drop-cons}
 use lib.Dec.{ltb}
 use native.Mathlib.Decide.{ℕ_discrete}
 use borrow.Author.Tests.{lt-ltb, ltb-true}
-use Rattle.rules.specs.Lists.{all_of, filled}
+use Rattle.std.specs.Prelude.{Option, None, Some}
+use Rattle.std.specs.Option.{unwrap_or, option_map}
+use Rattle.std.specs.List.{find}
+use Rattle.rules.specs.Lists.{all_of}
 use Rattle.rules.specs.Book.{key, needs}
 use Rattle.rules.specs.Steps.{first_off, onward, next_key}
 use Rattle.rules.proofs.Tests.{left, right}
-use Rattle.rules.proofs.LoadedWords.{get_or-filled}
 use Rattle.rules.proofs.Needs.{Kind, set, up, down, level, points, kind, needs-cells, needs-build, needs-up, needs-down, needs-across, needs-vertices}
 
 -- a test, from its opposite
@@ -27,34 +26,19 @@ was-off true q = absurd (true≢false (sym q))
 was-off false q = refl
 
 -- ---- the first key that is not held
-module _ (h : ℕ → Bool) (k : ℕ) (ns : List ℕ) where
-  first_past : (i : ℕ) → i < length ns → h (get_or ns i 0) ≡ true → first_off h k (drop (i + 1) ns) ≡ first_off h k (drop i ns)
-  unfolding first_off
-  first_past i l q = rw (add-one, drop-cons ns i 0, q)
+pub first_off-find : (h : ℕ → Bool) (k : ℕ) (ns : List ℕ) → unwrap_or (find (λ x. not (h x)) ns) k ≡ first_off h k ns
+unfolding first_off
+first_off-find h k [] = refl
+first_off-find h k (x ∷ xs) = go (h x) (first_off-find h k xs)
+  where
+    go : (b : Bool) → unwrap_or (find (λ x. not (h x)) xs) k ≡ first_off h k xs → unwrap_or (cond (not b) (Some x) (find (λ x. not (h x)) xs)) k ≡ cond b (first_off h k xs) x
+    go true e = e
+    go false e = refl
 
-  first_found : (i : ℕ) → i < length ns → h (get_or ns i 0) ≡ false → get_or ns i 0 ≡ first_off h k (drop i ns)
-  unfolding first_off
-  first_found i l q = rw (drop-cons ns i 0, q)
-
-  pub first-none : (i : ℕ) → length ns ≤ i → k ≡ first_off h k (drop i ns)
-  unfolding first_off
-  first-none i l = rw (drop_of_length-le ns {i = i} l)
-
--- at most three needs stand in an array of three
-pub three-most : (ns ks : List ℕ) → ks ≡ filled 3 ns → length ks ≡ 3 → length ns ≤ 3
-unfolding filled
-three-most ns ks q n = omega (arith, simp (length-append, length-replicate) at (sym n ∙ ap length q))
-
--- need i is held or not, as it is read from the array
-module _ (h : ℕ → Bool) (k : ℕ) (ns ks : List ℕ) (e : ks ≡ filled 3 ns) (n : ℕ) (q : n ≡ length ns) (i : ℕ) (l : i < n) (b : Bool) (r : b ≡ h (get_or ks i 0)) where
-  need : get_or ks i 0 ≡ get_or ns i 0
-  need = rw e (get_or-filled 3 ns i)
-
-  pub stops : not b ≡ true → get_or ks i 0 ≡ first_off h k (drop i ns)
-  stops z = need ∙ first_found h k ns i (omega arith) (sym (ap h need) ∙ sym r ∙ was-off b z)
-
-  pub goes : not b ≡ false → first_off h k (drop (i + 1) ns) ≡ first_off h k (drop i ns)
-  goes z = first_past h k ns i (omega arith) (sym (ap h need) ∙ sym r ∙ was-on b z)
+-- what a search gives is given by value
+pub by_value : (o : Option ℕ) (k : ℕ) → unwrap_or o k ≡ unwrap_or (option_map (λ x. x) o) k
+by_value None k = refl
+by_value (Some x) k = refl
 
 -- ---- keys below 16
 key-small : (d e : ℕ) → d ≤ 3 → e ≤ 3 → ltb (key d e) 16 ≡ true

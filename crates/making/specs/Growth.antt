@@ -1,9 +1,11 @@
 -- A book with one relation more, or as it was where that does not fit; what the steps on the way to a relation ask and leave; and one relation less.
-use Rattle.std.specs.Prelude.{◌≡◌, Bool, true, false, cond, List, ℕ, ◌/◌, ◌%◌, ◌^◌, ◌≤◌, ◌<◌, length, get_or, take, leb}
+use Rattle.std.specs.Prelude.{◌≡◌, true, false, cond, List, ℕ, ◌/◌, ◌%◌, ◌^◌, ◌≤◌, ◌<◌, length, get_or, take, leb, Result, Ok, Err}
 use Rattle.rules.specs.Lists.{all_of, filled}
 use Rattle.rules.specs.Book.{dim, key, held, rows_of, relation, needs, frame_right, rows_right}
 use Rattle.rules.specs.Made.{made}
 use Rattle.rules.specs.Calls.{added, differs, with_key}
+use Rattle.kinds.specs.declared.refusals.Refusal.{Refusal}
+use Rattle.kinds.specs.declared.refusals.Refusal.TheVariants.{NoRoom}
 use Rattle.relations.specs.Words.{Written}
 
 -- the book is right, d→e is not held, and what it is made from is
@@ -19,6 +21,10 @@ pub record Makable (ws : List ℕ) (d e : ℕ) : Type 0 where
 pub record Appends (ws : List ℕ) (d e dst end n : ℕ) (vs : List ℕ) : Type 0 where
   pub written : Written ws dst (relation (made ws d e)) end vs
   pub count : e ≡ 0 → 0 < d → n ≡ length (made ws d e)
+
+-- accepted where the words vs fit a book as long as ws, and no room where they do not
+unfoldable pub room_answer : List ℕ → List ℕ → Result (Unit {0}) Refusal
+room_answer vs ws = cond (leb (length vs) (length ws)) (Ok (record {})) (Err NoRoom)
 
 -- the book with d→e made, where it fits
 unfoldable pub grown : List ℕ → ℕ → ℕ → List ℕ
@@ -54,9 +60,9 @@ pub record Keeps (ws vs : List ℕ) : Type 0 where
   pub same : (j : ℕ) → held ws j ≡ true → rows_of vs j ≡ rows_of ws j
 
 -- vs holds the relation of key k exactly when all that it wants fits, and has no other words then; else it still keeps what ws holds
-pub record Holds (ws : List ℕ) (k : ℕ) (r : Bool) (vs : List ℕ) : Type 0 where
-  pub fits : r ≡ leb (length (wanted ws k)) (length ws)
-  pub words : r ≡ true → vs ≡ filled (length ws) (wanted ws k)
+pub record Holds (ws : List ℕ) (k : ℕ) (r : Result (Unit {0}) Refusal) (vs : List ℕ) : Type 0 where
+  pub fits : r ≡ room_answer (wanted ws k) ws
+  pub words : r ≡ Ok (record {}) → vs ≡ filled (length ws) (wanted ws k)
   pub keeps : Keeps ws vs
 
 -- the book with the relation of key k held and everything it is made from, where they fit

@@ -2,15 +2,16 @@
 // And a relation taken out of it.
 #![tactic(auto)]
 
-ghost use Rattle.std.specs.Prelude.{◌≡◌, not, ◌&&◌, ◌≤◌, ◌<◌, length, eqb, leb};
+ghost use Rattle.std.specs.Prelude.{◌≡◌, not, ◌&&◌, ◌≤◌, ◌<◌, length, eqb};
 ghost use Rattle.rules.specs.Lists.{up_to, any_of, filled};
 ghost use Rattle.rules.specs.Book.{dim, key, named, held, Right};
 ghost use Rattle.rules.specs.Calls.{count_after, added, differs, has_to_make, count_left, dropped};
 ghost use Rattle.rules.specs.Steps.{onward, next_key, mask_with};
 ghost use Rattle.relations.specs.Ready.{Ready, Stands};
-ghost use Rattle.making.specs.Growth.{Appends, Makable, grown, Maskable, Askable, wanted, Holds, answered, Droppable};
+ghost use Rattle.making.specs.Growth.{Appends, Makable, room_answer, grown, Maskable, Askable, wanted, Holds, answered, Droppable};
 
 use book::Place;
+use kinds::Refusal;
 use relations::Source;
 
 // A relation written behind the used words: the place after it, and its number of rows where it is d→0 with d > 0.
@@ -43,20 +44,9 @@ fn append(book: &mut [u32], d: u32, e: u32, used: Place) -> Appended
     if e == 0 {
         if d > 0 {
             let cells = source_of(book, top, 0);
-            let at = cells.at;
-            let built = building::build(
-                book,
-                building::Cells {
-                    at: at,
-                    count: cells.rows,
-                    dim: top,
-                },
-                d,
-                used,
-            );
-            let end = built.end;
+            let built = building::build(book, cells, d, used);
             return Appended {
-                end: end,
+                end: built.end,
                 rows: built.count,
             };
         }
@@ -104,10 +94,10 @@ fn count_after(book: &[u32], d: u32, e: u32, n: u32, x: u32) -> u32
     book::word(book, Place(1 + x as usize))
 }
 
-// Makes d→e, and says whether it fits; where it does not, the book is as it was.
-pub fn add(book: &mut [u32], d: u32, e: u32) -> bool
+// Makes d→e; where it does not fit, the book is as it was. Refusals: 13.
+pub fn add(book: &mut [u32], d: u32, e: u32) -> Result<(), Refusal>
     requires { Makable book.old d e }
-    ensures fits { result ≡ leb (length (added book.old d e)) (length book.old) }
+    ensures fits { result ≡ room_answer (added book.old d e) book.old }
     ensures words { book.new ≡ grown book.old d e }
 {
     let k = book::key(d, e);
@@ -118,16 +108,17 @@ pub fn add(book: &mut [u32], d: u32, e: u32) -> bool
     let end = new.end;
     if book.len() < end.0 {
         settle::clear(book, used);
-        return false;
+        return Err(Refusal::NoRoom);
     }
     let edges = count_after(book, d, e, new.rows, 1);
     let faces = count_after(book, d, e, new.rows, 2);
     settle::settle(book, at, used, end);
     settle::set_head(book, mask + (1 << k), edges, faces, end);
-    true
+    Ok(())
 }
 
 // Whether some relation held names x, 0 < x < D, and the number of entities found for x→0 is not the N_x that is kept.
+// The book is lent to the caller for writing, as the bare words, so that it is right is a clause here and in `apart`, and no RightBook.
 fn differs(book: &[u32], x: u32) -> bool
     requires { Right book.now }
     ensures { result ≡ differs book.now x }
@@ -142,18 +133,7 @@ fn differs(book: &[u32], x: u32) -> bool
     if !frame::mentions(book::word(book, Place(1)), x) {
         return false;
     }
-    let cells = source_of(book, top, 0);
-    let at = cells.at;
-    let found = building::found(
-        book,
-        building::Cells {
-            at: at,
-            count: cells.rows,
-            dim: top,
-        },
-        x,
-    );
-    found != book::count(book, x)
+    building::found(book, source_of(book, top, 0), x) != book::count(book, x)
 }
 
 // Whether d→e is x→0, and the number of entities found for it is not the N_x that is kept.
@@ -173,17 +153,12 @@ fn onward(top: u32, mask: u32, k: u32) -> u32
     ensures { result ≡ onward top (named mask) k }
 {
     let needs = frame::needs_of(top, k / 4, k % 4);
-    let keys = needs.keys;
-    let count = needs.count;
-    let mut i: usize = 0;
-    while i < count {
-        let key = keys[i];
-        if !book::named(mask, key) {
-            return key;
-        }
-        i += 1;
-    }
-    k
+    needs
+        .keys()
+        .iter()
+        .copied()
+        .find(|key| !book::named(mask, *key))
+        .unwrap_or(k)
 }
 
 // The key to make next on the way to k, where D is `top` and the mask names what is held.
@@ -192,10 +167,8 @@ fn next_key(top: u32, mask: u32, k: u32) -> u32
     ensures { result ≡ next_key 6 top (named mask) k }
 {
     let mut at = k;
-    let mut steps: usize = 6;
-    while steps > 0 {
+    for _step in 0..6u32 {
         at = onward(top, mask, at);
-        steps -= 1;
     }
     at
 }
@@ -206,6 +179,7 @@ fn mask_with(top: u32, mask: u32, k: u32) -> u32
     ensures { result ≡ mask_with 6 top mask k }
 {
     let mut now = mask;
+    // No `for` or chain: the mask itself says when the end is reached, and the next step is read from it.
     while !book::named(now, k) {
         now += 1 << next_key(top, now, k);
     }
@@ -239,24 +213,23 @@ pub fn ask_differs(book: &[u32], d: u32, e: u32) -> bool
     apart(book, goal, 2)
 }
 
-// Makes what the relation of key k is made from, as far as it is missing, and then it, one after another until one does not fit; says whether all fit.
-fn hold(book: &mut [u32], k: u32) -> bool
+// Makes what the relation of key k is made from, as far as it is missing, and then it, one after another until one does not fit.
+fn hold(book: &mut [u32], k: u32) -> Result<(), Refusal>
     requires { Askable book.old k }
     ensures { Holds book.old k result book.new }
 {
+    // No `for` or chain: the book itself says when the end is reached, and the next step is read from it.
     while !book::held(book, k) {
         let next = next_key(book::dim(book), book::word(book, Place(1)), k);
-        if !add(book, next / 4, next % 4) {
-            return false;
-        }
+        add(book, next / 4, next % 4)?;
     }
-    true
+    Ok(())
 }
 
-// Makes the relation of key k and what it is made from, and says whether they fit; where they do not, the book is as it was.
-pub fn ask_for(book: &mut [u32], k: u32) -> bool
+// Makes the relation of key k and what it is made from; where they do not fit, the book is as it was. Refusals: 13.
+pub fn ask_for(book: &mut [u32], k: u32) -> Result<(), Refusal>
     requires { Askable book.old k }
-    ensures fits { result ≡ leb (length (wanted book.old k)) (length book.old) }
+    ensures fits { result ≡ room_answer (wanted book.old k) book.old }
     ensures words { book.new ≡ answered book.old k }
 {
     let head = [
@@ -266,11 +239,11 @@ pub fn ask_for(book: &mut [u32], k: u32) -> bool
         book::word(book, Place(3)),
         book::word(book, Place(4)),
     ];
-    if hold(book, k) {
-        return true;
+    let answer = hold(book, k);
+    if answer.is_err() {
+        settle::give_back(book, head);
     }
-    settle::give_back(book, head);
-    false
+    answer
 }
 
 // N_x once the mask names the relations that are left.

@@ -11,9 +11,10 @@ use Rattle.rules.specs.Broken.{broken_at, told}
 use Rattle.rules.specs.Calls.{first_broken}
 use Rattle.rules.specs.Truth.{Mesh, number}
 use Rattle.rules.specs.Plain.{mesh_in, plain_rules, plain_number, plain_yes}
-use Rattle.rules.proofs.Told.{told-eleven}
-use Rattle.plain.specs.declared.answers.WorkedOut.{WorkedOut}
-use Rattle.plain.specs.Answers.{worked_number, worked_yes, worked_place, by_counts, said_of}
+use Rattle.std.specs.Prelude.{Result}
+use Rattle.kinds.specs.declared.refusals.Refusal.{Refusal}
+use Rattle.kinds.specs.Refusals.{answer_number, answer_place, given}
+use Rattle.plain.specs.Answers.{by_counts, said_of}
 
 not-eleven : (m : Mesh) (d e i j : ℕ) → eqb (by_counts m d e i j) 11 ≡ false
 unfolding by_counts first_broken
@@ -26,8 +27,8 @@ not-eleven m d e i j = go (leb (number m d) i) (leb (number m e) j)
 
 module _ (ws : List ℕ) (d e i j : ℕ) where
   -- what the contract says of an answer
-  abbrev pub Answers : WorkedOut → Type 0
-  Answers r = (worked_number r ≡ plain_number ws d e i j) × ((worked_yes r ≡ plain_yes ws d e i j) × (worked_place r ≡ told (plain_number ws d e i j) (broken_at ws)))
+  abbrev pub Answers : Result Bool Refusal → Type 0
+  Answers r = (answer_number r ≡ plain_number ws d e i j) × ((given false (λ y. y) r ≡ plain_yes ws d e i j) × (answer_place r ≡ told (plain_number ws d e i j) (broken_at ws)))
 
   no-yes : (n : ℕ) → eqb n 0 ≡ false → plain_number ws d e i j ≡ n → false ≡ plain_yes ws d e i j
   unfolding plain_yes
@@ -38,22 +39,10 @@ module _ (ws : List ℕ) (d e i j : ℕ) where
   no_place n z p = rw (p, z)
 
   -- a refusal with a number alone
-  pub bare : (r : WorkedOut) (n : ℕ) → eqb n 0 ≡ false → eqb n 11 ≡ false → worked_number r ≡ n → worked_yes r ≡ false → worked_place r ≡ none → plain_number ws d e i j ≡ n → Answers r
+  pub bare : (r : Result Bool Refusal) (n : ℕ) → eqb n 0 ≡ false → eqb n 11 ≡ false → answer_number r ≡ n → given false (λ y. y) r ≡ false → answer_place r ≡ none → plain_number ws d e i j ≡ n → Answers r
   bare r n z w a y q p = (a ∙ sym p, (y ∙ no-yes n z p, q ∙ no_place n w p))
 
-  -- a refusal with 11 and the place
-  pub placed-so : (r : WorkedOut) → worked_number r ≡ 11 → worked_yes r ≡ false → worked_place r ≡ broken_at ws → plain_number ws d e i j ≡ 11 → Answers r
-  placed-so r a y q p = (a ∙ sym p, (y ∙ no-yes 11 refl p, q ∙ told-eleven _ _ (sym p)))
-
-  pub plain-10 : frame_right ws ≡ false → plain_number ws d e i j ≡ 10
-  unfolding plain_number plain_rules first_broken
-  plain-10 f = rw f
-
   module _ (f : frame_right ws ≡ true) where
-    pub plain-11 : rows_right ws ≡ false → plain_number ws d e i j ≡ 11
-    unfolding plain_number plain_rules first_broken
-    plain-11 r = rw (f, r)
-
     module _ (r : rows_right ws ≡ true) where
       pub plain-12-first : dim ws < d → plain_number ws d e i j ≡ 12
       unfolding plain_number plain_rules first_broken
@@ -69,6 +58,6 @@ module _ (ws : List ℕ) (d e i j : ℕ) where
         counts-decide = rw (f, r, le-ltb (dim ws) d k, le-ltb (dim ws) e l)
 
         -- the mesh decides the rest, and 11 is not among it
-        pub by-mesh : (w : WorkedOut) → worked_number w ≡ by_counts (mesh_in ws) d e i j → worked_yes w ≡ said_of (mesh_in ws) d e i j → worked_place w ≡ none → Answers w
+        pub by-mesh : (w : Result Bool Refusal) → answer_number w ≡ by_counts (mesh_in ws) d e i j → given false (λ y. y) w ≡ said_of (mesh_in ws) d e i j → answer_place w ≡ none → Answers w
         unfolding plain_yes said_of
         by-mesh w a y q = (a ∙ sym counts-decide, (y ∙ rw counts-decide, q ∙ no_place (by_counts (mesh_in ws) d e i j) (not-eleven (mesh_in ws) d e i j) counts-decide))

@@ -1,14 +1,16 @@
 -- The cells before one, gone through from the nearest.
-use mathlib.Core.Path.{◌≡◌, refl, sym, ap, ◌∙◌}
+use mathlib.Core.Path.{◌≡◌, refl, sym, ◌∙◌}
 use mathlib.Core.Bool.{Bool, true, false}
 use mathlib.Core.List.{List, [], ◌∷◌, ◌++◌}
-use Prim.Native.Nat.{ℕ, suc, ◌+◌, ◌-◌, ◌*◌, ◌≤◌, ◌<◌}
+use Prim.Native.Nat.{ℕ, suc, ◌+◌, ◌*◌, ◌≤◌, ◌<◌}
 use native.Mathlib.Nat.{mul-le-mul_right, suc-mul}
 use native.Mathlib.Omega.{arith}
 use lib.ListN.{length, get_or, drop, length-take, length-drop}
 use lib.Seq.{get_or-take, get_or-drop}
 use Rattle.rules.specs.Lists.{up_to, any_of}
-use Rattle.rules.proofs.Tests.{or_right, any_append, any_last}
+use Rattle.rules.proofs.Tests.{any-of, any_last}
+use Rattle.rules.proofs.Keep.{up_to-of}
+use Rattle.rules.proofs.Distinct.{map_of}
 use Rattle.rules.proofs.Joined.{map_last}
 use Rattle.plain.specs.Cells.{cell_at, cells_before}
 
@@ -34,19 +36,15 @@ module _ (size : ℕ) (ws : List ℕ) where
   unfolding cell_at
   cell-word c k l = sym (get_or-take size (drop (c * size) ws) k 0 l ∙ get_or-drop (c * size) ws k 0)
 
-  module _ (p : List ℕ → Bool) (b : ℕ) (l : 0 < b) where
-    pub any-passed : p (cell_at size ws (b - 1)) ≡ false → any_of p (cells_before size ws b) ≡ any_of p (cells_before size ws (b - 1))
-    any-passed e =
-        let q : b ≡ b - 1 + 1 = omega arith in
-        ap (λ (n : ℕ). any_of p (cells_before size ws n)) q ∙ ap (any_of p) (before_more (b - 1)) ∙ any_last p (cells_before size ws (b - 1)) (cell_at size ws (b - 1)) e
+  -- one cell more
+  module _ (p : List ℕ → Bool) (b : ℕ) (e : any_of p (cells_before size ws b) ≡ false) where
+    pub any-before : p (cell_at size ws b) ≡ false → any_of p (cells_before size ws (b + 1)) ≡ false
+    any-before h = rw (before_more b) (any_last p (cells_before size ws b) (cell_at size ws b) h ∙ e)
 
-    pub any_found : p (cell_at size ws (b - 1)) ≡ true → any_of p (cells_before size ws b) ≡ true
-    unfolding any_of
-    any_found e =
-        let q : b ≡ b - 1 + 1 = omega arith in
-        ap (λ (n : ℕ). any_of p (cells_before size ws n)) q ∙ ap (any_of p) (before_more (b - 1)) ∙ any_append p (cells_before size ws (b - 1)) (cell_at size ws (b - 1) ∷ [])
-        ∙ or_right (any_of p (cells_before size ws (b - 1))) _ (rw e)
+  pub found-before : (p : List ℕ → Bool) (b n : ℕ) → b < n → p (cell_at size ws b) ≡ true → any_of p (cells_before size ws n) ≡ true
+  unfolding cells_before
+  found-before p b n l h = any-of p (map_of (cell_at size ws) (up_to-of b n l)) h
 
-  pub none_before : (p : List ℕ → Bool) (b : ℕ) → b ≤ 0 → any_of p (cells_before size ws b) ≡ false
+  pub none_before : (p : List ℕ → Bool) → any_of p (cells_before size ws 0) ≡ false
   unfolding any_of
-  none_before p b l = let e : b ≡ 0 = omega arith in rw (e, before-none)
+  none_before p = rw before-none

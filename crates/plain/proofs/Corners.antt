@@ -3,12 +3,12 @@ use mathlib.Core.Path.{◌≡◌, ◌∙◌}
 use mathlib.Core.List.{List, [], ◌∷◌}
 use Prim.Native.Nat.{ℕ, zero, suc, ◌+◌, ◌-◌, ◌≤◌, ◌<◌}
 use native.Mathlib.Omega.{arith}
-use lib.ListN.{length, get_or, take, length-take}
-use lib.Seq.{get_or-take, take_all}
+use lib.ListN.{length, get_or, take}
+use lib.Seq.{take_all}
 use borrow.Author.Tests.{eq-eqb, ne_eqb}
 use Rattle.rules.specs.Lists.{choose}
 use Rattle.rules.specs.Book.{most}
-use Rattle.rules.proofs.Numbered.{three-members, four-members}
+use Rattle.rules.proofs.Numbered.{four-members}
 use Rattle.plain.specs.Cells.{Choice}
 
 -- the edges of a tetrahedron behind those at its first corner
@@ -18,11 +18,6 @@ edge-behind v w x y zero l = absurd (omega arith)
 edge-behind v w x y (suc zero) l = absurd (omega arith)
 edge-behind v w x y (suc (suc zero)) l = absurd (omega arith)
 edge-behind v w x y (suc (suc (suc q))) l = let e : suc (suc (suc q)) - 3 ≡ q = omega arith in rw e
-
-three-of : (c : List ℕ) → length c ≡ 4 → take 3 c ≡ get_or c 0 0 ∷ get_or c 1 0 ∷ get_or c 2 0 ∷ []
-three-of c l =
-    three-members (take 3 c) (rw length-take (omega arith))
-    ∙ rw (get_or-take 3 c 0 0 (omega arith), get_or-take 3 c 1 0 (omega arith), get_or-take 3 c 2 0 (omega arith))
 
 four-of : (c : List ℕ) → length c ≡ 4 → take 4 c ≡ get_or c 0 0 ∷ get_or c 1 0 ∷ get_or c 2 0 ∷ get_or c 3 0 ∷ []
 four-of c l = take_all 4 c (omega arith) ∙ four-members c l
@@ -42,18 +37,7 @@ module _ {D d q : ℕ} (k : Choice D d q) where
 
   -- which candidates these are
   module _ (cell r : List ℕ) (four : length cell ≡ 4) where
-    pub sides-are : D ≡ 2 → take 2 r ≡ get_or (choose 2 (get_or cell 0 0 ∷ get_or cell 1 0 ∷ get_or cell 2 0 ∷ [])) q [] → take (d + 1) r ≡ get_or (choose (d + 1) (take (D + 1) cell)) q []
-    sides-are e h =
-        let p : d ≡ 1 = omega (arith, k.low, k.high) in
-        rw (e, p, three-of cell four) h
-
     pub edges_are : (D ≡ 2 → ⊥) → d ≡ 1 → take 2 r ≡ get_or (choose 2 (get_or cell 0 0 ∷ get_or cell 1 0 ∷ get_or cell 2 0 ∷ get_or cell 3 0 ∷ [])) q [] → take (d + 1) r ≡ get_or (choose (d + 1) (take (D + 1) cell)) q []
     edges_are n p h =
         let e : D ≡ 3 = omega (arith, k.low, k.high, k.three) in
-        rw (e, p, four-of cell four) h
-
-    pub faces-are : (D ≡ 2 → ⊥) → (d ≡ 1 → ⊥) → take 3 r ≡ get_or (choose 3 (get_or cell 0 0 ∷ get_or cell 1 0 ∷ get_or cell 2 0 ∷ get_or cell 3 0 ∷ [])) q [] → take (d + 1) r ≡ get_or (choose (d + 1) (take (D + 1) cell)) q []
-    faces-are n m h =
-        let e : D ≡ 3 = omega (arith, k.low, k.high, k.three) in
-        let p : d ≡ 2 = omega (arith, k.low, k.high, k.three) in
         rw (e, p, four-of cell four) h

@@ -5,8 +5,7 @@ use mathlib.Core.Bool.{Bool, true, false, ◌&&◌, ◌||◌}
 use mathlib.Core.List.{List, [], ◌∷◌}
 use Prim.Native.Nat.{ℕ, ◌+◌, ◌-◌, ◌*◌, ◌≤◌, ◌<◌}
 use native.Mathlib.Omega.{arith}
-use lib.ListN.{length, get_or, take, length-take}
-use lib.Seq.{get_or-take}
+use lib.ListN.{length, get_or}
 use lib.Dec.{eqb}
 use Rattle.rules.specs.Lists.{any_of, all_of, has, inside}
 use Rattle.rules.proofs.Compared.{lt-or-le}
@@ -51,31 +50,25 @@ module _ (ws : List ℕ) (size b v : ℕ) (l : 3 ≤ size) (h : size ≤ 4) (f :
       go (inr m) = rw (last_word 3 (omega arith)) (ap (has v) (sym (four-members (cell_at size ws b) (cell-long size ws b f ∙ omega arith))))
 
 -- ---- three members of a set
-module _ (set cell : List ℕ) (n : ℕ) (l : 2 ≤ n) (h : n ≤ 3) (f : length set ≡ 4) where
-  member : (k : ℕ) → k < n → get_or set k 0 ≡ get_or (take n set) k 0
-  member k m = sym (get_or-take n set k 0 m)
+module _ (set cell : List ℕ) (l : 2 ≤ length set) (h : length set ≤ 3) where
+  last-member : (k : ℕ) → k + 1 ≡ length set → get_or set (length set - 1) 0 ≡ get_or set k 0
+  last-member k e = let q : length set - 1 ≡ k = omega arith in rw q
 
-  last-member : (k : ℕ) → k + 1 ≡ n → get_or set (n - 1) 0 ≡ get_or (take n set) k 0
-  last-member k e = let q : n - 1 ≡ k = omega arith in rw q (member k (omega arith))
-
-  set_long : length (take n set) ≡ n
-  set_long = rw length-take (omega arith)
-
-  pub three-asked : (has (get_or set 0 0) cell && (has (get_or set 1 0) cell && has (get_or set (n - 1) 0) cell)) ≡ inside (take n set) cell
+  pub three-asked : (has (get_or set 0 0) cell && (has (get_or set 1 0) cell && has (get_or set (length set - 1) 0) cell)) ≡ inside set cell
   unfolding inside all_of
-  three-asked = rw (member 0 (omega arith), member 1 (omega arith)) (go (lt-or-le n 3))
+  three-asked = go (lt-or-le (length set) 3)
     where
-      go : (n < 3) ⊎ (3 ≤ n) → (has (get_or (take n set) 0 0) cell && (has (get_or (take n set) 1 0) cell && has (get_or set (n - 1) 0) cell)) ≡ inside (take n set) cell
-      go (inl m) = rw (last-member 1 (omega arith)) (and_again (has (get_or (take n set) 0 0) cell) (has (get_or (take n set) 1 0) cell) ∙ ap (λ (s : List ℕ). inside s cell) (sym (two-members (take n set) (set_long ∙ omega arith))))
-      go (inr m) = rw (last-member 2 (omega arith)) (and-true (has (get_or (take n set) 0 0) cell) (has (get_or (take n set) 1 0) cell) (has (get_or (take n set) 2 0) cell) ∙ ap (λ (s : List ℕ). inside s cell) (sym (three-members (take n set) (set_long ∙ omega arith))))
+      go : (length set < 3) ⊎ (3 ≤ length set) → (has (get_or set 0 0) cell && (has (get_or set 1 0) cell && has (get_or set (length set - 1) 0) cell)) ≡ inside set cell
+      go (inl m) = rw (last-member 1 (omega arith)) (and_again (has (get_or set 0 0) cell) (has (get_or set 1 0) cell) ∙ ap (λ (s : List ℕ). inside s cell) (sym (two-members set (omega arith))))
+      go (inr m) = rw (last-member 2 (omega arith)) (and-true (has (get_or set 0 0) cell) (has (get_or set 1 0) cell) (has (get_or set 2 0) cell) ∙ ap (λ (s : List ℕ). inside s cell) (sym (three-members set (omega arith))))
 
 -- what was asked of each member decides whether the set lies inside the cell
-module _ (ws : List ℕ) (size b : ℕ) (l : 3 ≤ size) (h : size ≤ 4) (f : b * size + size ≤ length ws) (set : List ℕ) (n : ℕ) (low : 2 ≤ n) (high : n ≤ 3) (four : length set ≡ 4) where
+module _ (ws : List ℕ) (size b : ℕ) (l : 3 ≤ size) (h : size ≤ 4) (f : b * size + size ≤ length ws) (set : List ℕ) (low : 2 ≤ length set) (high : length set ≤ 3) where
   -- the four words
   abbrev words : List ℕ
   words = get_or ws (b * size) 0 ∷ get_or ws (b * size + 1) 0 ∷ get_or ws (b * size + 2) 0 ∷ get_or ws (b * size + size - 1) 0 ∷ []
 
-  pub all_held : (one two last : Bool) → one ≡ has (get_or set 0 0) words → two ≡ has (get_or set 1 0) words → last ≡ has (get_or set (n - 1) 0) words → (one && (two && last)) ≡ inside (take n set) (cell_at size ws b)
+  pub all_held : (one two last : Bool) → one ≡ has (get_or set 0 0) words → two ≡ has (get_or set 1 0) words → last ≡ has (get_or set (length set - 1) 0) words → (one && (two && last)) ≡ inside set (cell_at size ws b)
   all_held one two last p q r =
-      rw (p ∙ four-words ws size b (get_or set 0 0) l h f, q ∙ four-words ws size b (get_or set 1 0) l h f, r ∙ four-words ws size b (get_or set (n - 1) 0) l h f)
-      (three-asked set (cell_at size ws b) n low high four)
+      rw (p ∙ four-words ws size b (get_or set 0 0) l h f, q ∙ four-words ws size b (get_or set 1 0) l h f, r ∙ four-words ws size b (get_or set (length set - 1) 0) l h f)
+      (three-asked set (cell_at size ws b) low high)

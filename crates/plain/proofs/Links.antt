@@ -2,13 +2,11 @@
 use mathlib.Core.Path.{◌≡◌, refl, sym, ap, ◌∙◌}
 use mathlib.Core.Logic.{◌⊎◌, inl, inr}
 use mathlib.Core.Bool.{true, false, false≢true}
-use mathlib.Core.List.Memᴰ
 use mathlib.Core.List.{List, Memᴰ as In}
 use Prim.Native.Nat.{ℕ, zero, suc, ◌+◌, ◌-◌, ◌*◌, ◌/◌, ◌≤◌, ◌<◌}
 use native.Mathlib.Nat.{mul-le-mul_right, div-mul-le_self, mul-add-div_right, div-eq_of_lt, add-zero, suc-mul}
 use native.Mathlib.Omega.{arith}
-use lib.ListN.{length, get_or, take, length-take}
-use lib.Seq.{get_or-take}
+use lib.ListN.{length, get_or}
 use Rattle.rules.specs.Lists.{up_to, any_of, inside}
 use Rattle.rules.specs.Chains.{Newest}
 use Rattle.rules.proofs.Compared.{lt-or-le, order}
@@ -101,14 +99,17 @@ module _ (ws : List ℕ) (size c v : ℕ) (s : List ℕ) (pos : 0 < size) (fits 
       high (suc q) z a = elim (lt-or-le q (c * size)) [ inl y ↦ omega arith | inr y ↦ absurd (n q y (omega (arith, a.within)) (a.own q z ∙ e)) ]
 
 -- ---- the corner of a cell where a member of a set of its vertices stands
-module _ (ws : List ℕ) (size c : ℕ) (cell set : List ℕ) (n r k : ℕ) (fits : c * size + size ≤ length ws)
-    (e : take size cell ≡ cell_at size ws c) (f : FirstOf cell size (get_or set r 0) k) (one : r < n) (long : n ≤ length set)
-    (i : (j : ℕ) → In j (take n set) → In j (cell_at size ws c)) where
+module _ (ws : List ℕ) (size c : ℕ) (cell set : List ℕ) (r k : ℕ) (fits : c * size + size ≤ length ws)
+    (e : cell ≡ cell_at size ws c) (f : FirstOf cell (length cell) (get_or set r 0) k) (one : r < length set)
+    (i : (j : ℕ) → In j set → In j (cell_at size ws c)) where
   word : (j : ℕ) → j < size → get_or ws (c * size + j) 0 ≡ get_or cell j 0
-  word j l = cell-word size ws c j l ∙ ap (λ (x : List ℕ). get_or x j 0) (sym e) ∙ get_or-take size cell j 0 l
+  word j l = cell-word size ws c j l ∙ ap (λ (x : List ℕ). get_or x j 0) (sym e)
 
-  member : In (get_or set r 0) (take n set)
-  member = Memᴰ.cast (sym (get_or-take n set r 0 one)) (get_or-in (take n set) r 0 (rw length-take (omega arith)))
+  long : length cell ≡ size
+  long = ap length e ∙ cell-long size ws c fits
+
+  member : In (get_or set r 0) set
+  member = get_or-in set r 0 one
 
   pub corner : k < size
   corner = elim (lt-or-le k size) [ inl x ↦ x | inr x ↦ absurd (missing x (place_in (cell_at size ws c) 0 (i (get_or set r 0) member))) ]
@@ -117,12 +118,12 @@ module _ (ws : List ℕ) (size c : ℕ) (cell set : List ℕ) (n r k : ℕ) (fit
       missing x p =
           let (j, l, g) = p in
           let m : j < size = rw (cell-long size ws c fits) at l in
-          f.before j (omega arith) (sym (get_or-take size cell j 0 m) ∙ ap (λ (y : List ℕ). get_or y j 0) e ∙ sym g)
+          f.before j (omega arith) (ap (λ (y : List ℕ). get_or y j 0) e ∙ sym g)
 
-  standing : AtCorner ws size c (c * size + k) (take n set)
+  standing : AtCorner ws size c (c * size + k) set
   standing =
       let l = corner in
-      let w : get_or ws (c * size + k) 0 ≡ get_or set r 0 = word k l ∙ f.found l in
+      let w : get_or ws (c * size + k) 0 ≡ get_or set r 0 = word k l ∙ f.found (omega (arith, long)) in
       record {
         low = omega arith;
         high = omega arith;
@@ -137,14 +138,13 @@ module _ (ws : List ℕ) (size c : ℕ) (cell set : List ℕ) (n r k : ℕ) (fit
           let l = corner in
           f.before j (omega arith) (sym (word j (omega arith)) ∙ ap (λ (x : ℕ). get_or ws x 0) z ∙ g)
 
-  pub at-corner : AtCorner ws size ((c * size + k) / size) (c * size + k) (take n set)
+  pub at-corner : AtCorner ws size ((c * size + k) / size) (c * size + k) set
   at-corner = rw (place-cell size c k corner) standing
 
 -- ---- each member of a set of a cell's vertices has a place in the tables
-pub set-low : (ws : List ℕ) (size c : ℕ) (set : List ℕ) (n : ℕ) → Small ws → c * size + size ≤ length ws → n ≤ length set → ((j : ℕ) → In j (take n set) → In j (cell_at size ws c))
-    → (k : ℕ) → k < n → get_or set k 0 < 8192
-set-low ws size c set n small fits long i k l =
-    let h : In (get_or set k 0) (take n set) = Memᴰ.cast (sym (get_or-take n set k 0 l)) (get_or-in (take n set) k 0 (rw length-take (omega arith))) in
-    let (j, m, e) = place_in (cell_at size ws c) 0 (i (get_or set k 0) h) in
+pub set-low : (ws : List ℕ) (size c : ℕ) (set : List ℕ) → Small ws → c * size + size ≤ length ws → ((j : ℕ) → In j set → In j (cell_at size ws c))
+    → (k : ℕ) → k < length set → get_or set k 0 < 8192
+set-low ws size c set small fits i k l =
+    let (j, m, e) = place_in (cell_at size ws c) 0 (i (get_or set k 0) (get_or-in set k 0 l)) in
     let z : j < size = rw (cell-long size ws c fits) at m in
     rw (e ∙ sym (cell-word size ws c j z)) (small.below (c * size + j) (omega arith))

@@ -1,11 +1,11 @@
 -- Entities found, and what two of them say.
 use mathlib.Core.Path.{◌≡◌, refl, sym, ap, ◌∙◌}
-use mathlib.Core.Bool.{true, false, ◌&&◌, false≢true}
+use mathlib.Core.Bool.{false, ◌&&◌}
 use mathlib.Core.List.{List, [], ◌∷◌}
 use Prim.Native.Nat.{ℕ, ◌+◌, ◌≤◌, ◌<◌}
 use lib.ListN.{length, take}
-use lib.Dec.{eqb, ltb, leb}
-use borrow.Author.Tests.{eq-eqb, ne_eqb, lt-ltb, le-ltb, ltb-true, ltb-false, le-leb, lt-leb}
+use lib.Dec.{eqb, leb}
+use borrow.Author.Tests.{eq-eqb, ne_eqb, le-leb, lt-leb}
 use Rattle.rules.specs.Lists.{any_of, has, meets}
 use Rattle.rules.specs.Made.{built}
 use Rattle.rules.specs.Calls.{first_broken}
@@ -13,13 +13,11 @@ use Rattle.rules.specs.Truth.{Mesh, entities, number, entity, incident}
 use Rattle.rules.proofs.Numbered.{length-rows, get_d_rows}
 use Rattle.rules.proofs.Incidence.{incident-level}
 use Rattle.rules.proofs.TrueRows.{entities-mid, entities-top, number-low, low-entity}
-use Rattle.plain.specs.declared.numbering.Sought.{Sought}
 use Rattle.plain.specs.declared.stored.Sizes.{Sizes}
 use Rattle.plain.specs.Cells.{cell_at, cells_before, mesh_from}
-use Rattle.plain.specs.Sought.{Seeks, Finds}
+use Rattle.plain.specs.Sought.{There}
 use Rattle.plain.specs.Answers.{by_counts, said_of}
 
--- ---- entities found
 module _ (s : Sizes) (ws : List ℕ) where
   mesh-dims : (mesh_from s ws).dims ≡ s.dim
   unfolding mesh_from
@@ -33,18 +31,22 @@ module _ (s : Sizes) (ws : List ℕ) where
   unfolding mesh_from
   mesh-cells = refl
 
-  pub found-vertex : (d i : ℕ) → d ≡ 0 → (r : Sought) → r.there ≡ ltb i s.vertices → r.set ≡ i ∷ 0 ∷ 0 ∷ 0 ∷ [] → Finds (entities (mesh_from s ws) d) d i r
-  unfolding number entity
-  found-vertex d i e r t z = rw e (record {
-    there = t ∙ ap (ltb i) (sym (number-low (mesh_from s ws) ∙ mesh-vertices));
-    set = λ y. ap (take 1) z ∙ sym (low-entity (mesh_from s ws) i (rw mesh-vertices (ltb-true i s.vertices (sym t ∙ y))));
-    four = ap length z;
-  })
+  vertices-length : (d : ℕ) → d ≡ 0 → length (entities (mesh_from s ws) d) ≡ s.vertices
+  unfolding number
+  vertices-length d e = rw e (number-low (mesh_from s ws) ∙ mesh-vertices)
 
-  pub found-set : (d i : ℕ) → 0 < d → d < s.dim → (r : Sought) → Seeks (built d [] (cells_before (s.dim + 1) ws s.cells)) d i r → Finds (entities (mesh_from s ws) d) d i r
-  found-set d i p q r k =
-      let e : entities (mesh_from s ws) d ≡ built d [] (cells_before (s.dim + 1) ws s.cells) = entities-mid (mesh_from s ws) d p (rw mesh-dims q) ∙ ap (built d []) mesh-cells in
-      rw e (record { there = k.there; set = k.set; four = k.four })
+  pub found-vertex : (d i : ℕ) → d ≡ 0 → i < s.vertices → There (entities (mesh_from s ws) d) d i (i ∷ 0 ∷ 0 ∷ 0 ∷ [])
+  unfolding entity
+  found-vertex d i e l = record {
+    below = rw (vertices-length d e) l;
+    set = rw e (sym (low-entity (mesh_from s ws) i (rw mesh-vertices l)));
+  }
+
+  pub no-vertex : (d i : ℕ) → d ≡ 0 → s.vertices ≤ i → length (entities (mesh_from s ws) d) ≤ i
+  no-vertex d i e l = rw (vertices-length d e) l
+
+  pub mid-entities : (d : ℕ) → 0 < d → d < s.dim → entities (mesh_from s ws) d ≡ built d [] (cells_before (s.dim + 1) ws s.cells)
+  mid-entities d p q = entities-mid (mesh_from s ws) d p (rw mesh-dims q) ∙ ap (built d []) mesh-cells
 
   top-entities : (d : ℕ) → 0 < s.dim → d ≡ s.dim → entities (mesh_from s ws) d ≡ cells_before (s.dim + 1) ws s.cells
   top-entities d p e =
@@ -54,21 +56,16 @@ module _ (s : Sizes) (ws : List ℕ) where
   unfolding cells_before
   cells-length = length-rows (cell_at (s.dim + 1) ws) s.cells
 
-  pub found-cell : (d i : ℕ) → 0 < s.dim → d ≡ s.dim → i < s.cells → (r : Sought) → r.there ≡ true → length r.set ≡ 4 → take (s.dim + 1) r.set ≡ cell_at (s.dim + 1) ws i
-      → Finds (entities (mesh_from s ws) d) d i r
+  pub found-cell : (d i : ℕ) → 0 < s.dim → d ≡ s.dim → i < s.cells → (r : List ℕ) → take (s.dim + 1) r ≡ cell_at (s.dim + 1) ws i
+      → There (entities (mesh_from s ws) d) d i r
   unfolding cells_before
-  found-cell d i p e l r t f k = rw (top-entities d p e) (record {
-    there = t ∙ sym (ap (ltb i) cells-length ∙ lt-ltb i s.cells l);
-    set = λ _. rw e (k ∙ sym (get_d_rows (cell_at (s.dim + 1) ws) s.cells i [] l));
-    four = f;
+  found-cell d i p e l r k = rw (top-entities d p e) (record {
+    below = rw cells-length l;
+    set = rw e (k ∙ sym (get_d_rows (cell_at (s.dim + 1) ws) s.cells i [] l));
   })
 
-  pub no_cell : (d i : ℕ) → 0 < s.dim → d ≡ s.dim → s.cells ≤ i → (r : Sought) → r.there ≡ false → length r.set ≡ 4 → Finds (entities (mesh_from s ws) d) d i r
-  no_cell d i p e l r t f = rw (top-entities d p e) (record {
-    there = t ∙ sym (ap (ltb i) cells-length ∙ le-ltb i s.cells l);
-    set = λ z. absurd (false≢true (sym t ∙ z));
-    four = f;
-  })
+  pub no_cell : (d i : ℕ) → 0 < s.dim → d ≡ s.dim → s.cells ≤ i → length (entities (mesh_from s ws) d) ≤ i
+  no_cell d i p e l = rw (top-entities d p e, cells-length) l
 
 -- ---- what two entities of one dimension say
 module _ (m : Mesh) (d e i j : ℕ) (s : d ≡ e) where
@@ -83,22 +80,22 @@ module _ (m : Mesh) (d e i j : ℕ) (s : d ≡ e) where
 
 -- ---- the number and the answer, from what was found
 module _ (m : Mesh) (d e i j : ℕ) where
-  pub none_first : (r : Sought) → Finds (entities m d) d i r → r.there ≡ false → by_counts m d e i j ≡ 17
+  pub none_first : length (entities m d) ≤ i → by_counts m d e i j ≡ 17
   unfolding by_counts first_broken number
-  none_first r f t = rw (le-leb (length (entities m d)) i (ltb-false i (length (entities m d)) (sym f.there ∙ t)))
+  none_first l = rw (le-leb (length (entities m d)) i l)
 
-  module _ (r : Sought) (f : Finds (entities m d) d i r) (t : r.there ≡ true) where
+  module _ (t : i < length (entities m d)) where
     there-first : leb (number m d) i ≡ false
     unfolding number
-    there-first = lt-leb (length (entities m d)) i (ltb-true i (length (entities m d)) (sym f.there ∙ t))
+    there-first = lt-leb (length (entities m d)) i t
 
-    pub none-second : (q : Sought) → Finds (entities m e) e j q → q.there ≡ false → by_counts m d e i j ≡ 19
+    pub none-second : length (entities m e) ≤ j → by_counts m d e i j ≡ 19
     unfolding by_counts first_broken number
-    none-second q g u = rw (there-first, le-leb (length (entities m e)) j (ltb-false j (length (entities m e)) (sym g.there ∙ u)))
+    none-second l = rw (there-first, le-leb (length (entities m e)) j l)
 
-    pub both-there : (q : Sought) → Finds (entities m e) e j q → q.there ≡ true → by_counts m d e i j ≡ 0
+    pub both-there : j < length (entities m e) → by_counts m d e i j ≡ 0
     unfolding by_counts first_broken number
-    both-there q g u = rw (there-first, lt-leb (length (entities m e)) j (ltb-true j (length (entities m e)) (sym g.there ∙ u)))
+    both-there u = rw (there-first, lt-leb (length (entities m e)) j u)
 
   pub said-none : (n : ℕ) → eqb n 0 ≡ false → by_counts m d e i j ≡ n → said_of m d e i j ≡ false
   unfolding said_of

@@ -57,6 +57,3 @@ module _ (many set : List ℕ) where
   module _ (best k : ℕ) (f : Fewest best k) where
     pub fewer : used k < used best → Fewest k (k + 1)
     fewer l j m = elim (same_or_not j k) [ inl e ↦ rw e (omega arith) | inr n ↦ omega (arith, f j (omega arith)) ]
-
-    pub no-fewer : used best ≤ used k → Fewest best (k + 1)
-    no-fewer l j m = elim (same_or_not j k) [ inl e ↦ rw e l | inr n ↦ f j (omega arith) ]

@@ -1,16 +1,15 @@
 -- A set looked for by its number among sets.
-use Rattle.std.specs.Prelude.{◌≡◌, true, false, List, [], ℕ, ◌+◌, length, take, get_or, ltb}
-use Rattle.plain.specs.declared.numbering.Sought.{Sought}
+use Rattle.std.specs.Prelude.{◌≡◌, List, [], ℕ, ◌+◌, ◌≤◌, ◌<◌, length, take, get_or, Option, Result, MatchOption, MatchResult}
 
--- set i of ss, which has d + 1 members, is there exactly where i is below their number; where it is not, their number is passed
-pub record Seeks (ss : List (List ℕ)) (d i : ℕ) (r : Sought) : Type 0 where
-  pub there : r.there ≡ ltb i (length ss)
-  pub set : r.there ≡ true → take (d + 1) r.set ≡ get_or ss i []
-  pub left : r.there ≡ false → r.left + length ss ≡ i
-  pub four : length r.set ≡ 4
+-- s has the d + 1 members of set i of ss, which is there
+pub record There (ss : List (List ℕ)) (d i : ℕ) (s : List ℕ) : Type 0 where
+  pub below : i < length ss
+  pub set : take (d + 1) s ≡ get_or ss i []
+
+-- set i of ss is given; where it is not there, by how much their number is passed
+abbrev pub Seeks : List (List ℕ) → ℕ → ℕ → Result (List ℕ) ℕ → Type 0
+Seeks ss d i r = MatchResult r (There ss d i) (λ left. left + length ss ≡ i)
 
 -- the same, without the count
-pub record Finds (ss : List (List ℕ)) (d i : ℕ) (r : Sought) : Type 0 where
-  pub there : r.there ≡ ltb i (length ss)
-  pub set : r.there ≡ true → take (d + 1) r.set ≡ get_or ss i []
-  pub four : length r.set ≡ 4
+abbrev pub Finds : List (List ℕ) → ℕ → ℕ → Option (List ℕ) → Type 0
+Finds ss d i r = MatchOption r (length ss ≤ i) (There ss d i)

@@ -1,100 +1,81 @@
 // Whether two entities are incident, from their vertex sets.
-ghost use Rattle.std.specs.Prelude.{◌≡◌, ◌+◌, ◌≤◌, ◌<◌, length, take};
+ghost use Rattle.std.specs.Prelude.{◌≡◌, false, ◌+◌, ◌≤◌, ◌<◌, take};
 ghost use Rattle.std.proofs.Math.Option.{none};
 ghost use Rattle.rules.specs.Truth as truth;
-ghost use Rattle.plain.specs.Cells.{Cells, mesh_from};
+ghost use Rattle.plain.specs.Cells.{mesh_from};
 ghost use Rattle.plain.specs.Sought.{Finds};
-ghost use Rattle.plain.specs.Answers.{worked_number, worked_yes, worked_place, by_counts, said_of};
+ghost use Rattle.kinds.specs.Refusals.{answer_number, answer_place, given};
+ghost use Rattle.plain.specs.Answers.{by_counts, said_of};
 
-use crate::answers::WorkedOut;
-use crate::numbering::{Entity, Sought, seek};
+use crate::numbering::{Entity, seek};
 use crate::sets::{inside_of, meets_of};
-use crate::stored::{Sizes, cell_at, share_cell};
+use crate::stored::{Mesh, cell_at, share_cell};
+use kinds::Refusal;
 
 // The vertex set of an entity, if it is there: a vertex is its own, a cell's are stored, and between them it is looked for.
-fn entity_of(cells: &[u32], sizes: Sizes, entity: Entity) -> Sought
-    requires fact_1 { Cells cells.now sizes.dim sizes.cells }
-    requires fact_2 { (0 < sizes.dim) × (entity.dim ≤ sizes.dim) }
-    ensures { Finds (truth.entities (mesh_from sizes cells.now) entity.dim) entity.dim entity.number result }
+fn entity_of(mesh: &Mesh<'_>, entity: Entity) -> Option<[u32; 4]>
+    requires dim { (0 < mesh.now.sizes.dim) × (entity.dim ≤ mesh.now.sizes.dim) }
+    ensures { Finds (truth.entities (mesh_from mesh.now.sizes mesh.now.words.now) entity.dim) entity.dim entity.number result }
 {
     let i = entity.number;
     if entity.dim == 0 {
-        return Sought {
-            there: i < sizes.vertices,
-            left: 0,
-            set: [i, 0, 0, 0],
+        return if i < mesh.sizes.vertices {
+            Some([i, 0, 0, 0])
+        } else {
+            None
         };
     }
-    if entity.dim < sizes.dim {
-        return seek(cells, sizes, entity);
+    if entity.dim < mesh.sizes.dim {
+        return seek(mesh, entity);
     }
     let at = i as usize;
-    if at < sizes.cells {
-        return Sought {
-            there: true,
-            left: 0,
-            set: cell_at(cells, sizes.dim + 1, at),
-        };
-    }
-    Sought {
-        there: false,
-        left: 0,
-        set: [0u32; 4],
+    if at < mesh.sizes.cells {
+        Some(cell_at(mesh.words, mesh.sizes.dim + 1, at))
+    } else {
+        None
     }
 }
 
 // Whether the second entity, whose vertices are b, is incident to the first, whose vertices are a.
-fn incident(
-    cells: &[u32],
-    sizes: Sizes,
-    first: Entity,
-    second: Entity,
-    a: [u32; 4],
-    b: [u32; 4],
-) -> bool
-    requires fact_1 { Cells cells.now sizes.dim sizes.cells }
-    requires fact_2 { (first.dim ≤ sizes.dim) × (second.dim ≤ sizes.dim) }
-    requires fact_3 { (length a ≡ 4) × (length b ≡ 4) }
-    requires fact_4 { take (first.dim + 1) a ≡ truth.entity (mesh_from sizes cells.now) first.dim first.number }
-    requires fact_5 { take (second.dim + 1) b ≡ truth.entity (mesh_from sizes cells.now) second.dim second.number }
-    ensures { result ≡ truth.incident (mesh_from sizes cells.now) first.dim second.dim first.number second.number }
+fn incident(mesh: &Mesh<'_>, first: Entity, second: Entity, a: [u32; 4], b: [u32; 4]) -> bool
+    requires dims { (first.dim ≤ mesh.now.sizes.dim) × (second.dim ≤ mesh.now.sizes.dim) }
+    requires first_is { take (first.dim + 1) a ≡ truth.entity (mesh_from mesh.now.sizes mesh.now.words.now) first.dim first.number }
+    requires second_is { take (second.dim + 1) b ≡ truth.entity (mesh_from mesh.now.sizes mesh.now.words.now) second.dim second.number }
+    ensures { result ≡ truth.incident (mesh_from mesh.now.sizes mesh.now.words.now) first.dim second.dim first.number second.number }
 {
     let d = first.dim;
     let e = second.dim;
     let i = first.number;
     let j = second.number;
+    let ours = &a[..d + 1];
+    let theirs = &b[..e + 1];
     if e < d {
-        return inside_of(b, e + 1, a, d + 1);
+        return inside_of(theirs, ours);
     }
     if d < e {
-        return inside_of(a, d + 1, b, e + 1);
+        return inside_of(ours, theirs);
     }
     if j == i {
         return false;
     }
     if d == 0 {
-        return share_cell(cells, sizes.dim + 1, sizes.cells, i, j);
+        return share_cell(mesh.words, mesh.sizes.dim + 1, mesh.sizes.cells, i, j);
     }
-    meets_of(a, d + 1, b, e + 1)
+    meets_of(ours, theirs)
 }
 
 // The answer from the cells alone. Refusals: 17 for the first entity, 19 for the second.
-pub(crate) fn worked_out(cells: &[u32], sizes: Sizes, first: Entity, second: Entity) -> WorkedOut
-    requires fact_1 { Cells cells.now sizes.dim sizes.cells }
-    requires fact_2 { (0 < sizes.dim) × ((first.dim ≤ sizes.dim) × (second.dim ≤ sizes.dim)) }
-    ensures number { worked_number result ≡ by_counts (mesh_from sizes cells.now) first.dim second.dim first.number second.number }
-    ensures yes { worked_yes result ≡ said_of (mesh_from sizes cells.now) first.dim second.dim first.number second.number }
-    ensures place { worked_place result ≡ none }
+pub(crate) fn worked_out(mesh: &Mesh<'_>, first: Entity, second: Entity) -> Result<bool, Refusal>
+    requires dims { (0 < mesh.now.sizes.dim) × ((first.dim ≤ mesh.now.sizes.dim) × (second.dim ≤ mesh.now.sizes.dim)) }
+    ensures number { answer_number result ≡ by_counts (mesh_from mesh.now.sizes mesh.now.words.now) first.dim second.dim first.number second.number }
+    ensures yes { given false (λ y. y) result ≡ said_of (mesh_from mesh.now.sizes mesh.now.words.now) first.dim second.dim first.number second.number }
+    ensures place { answer_place result ≡ none }
 {
-    let one = entity_of(cells, sizes, first);
-    let other = entity_of(cells, sizes, second);
-    if !one.there {
-        return WorkedOut::NoSuchEntity;
-    }
-    if !other.there {
-        return WorkedOut::NoSuchIndex;
-    }
-    let a = one.set;
-    let b = other.set;
-    WorkedOut::Incident(incident(cells, sizes, first, second, a, b))
+    let Some(a) = entity_of(mesh, first) else {
+        return Err(Refusal::NoSuchEntity);
+    };
+    let Some(b) = entity_of(mesh, second) else {
+        return Err(Refusal::NoSuchIndex);
+    };
+    Ok(incident(mesh, first, second, a, b))
 }

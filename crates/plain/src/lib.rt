@@ -1,7 +1,6 @@
 // A plain engine beside the relations: is (e, j) incident to (d, i), worked out from the cells' vertex sets each time, with its own numbering of entities. Once the book is found right, it goes by no relation but D→0. With what makes the relations it shares the checks of the book and the reading of single words, and nothing else.
 #![tactic(auto)]
 
-mod answers;
 mod candidates;
 mod chains;
 mod incidence;
@@ -9,36 +8,39 @@ mod numbering;
 mod sets;
 mod stored;
 
-ghost use Rattle.std.specs.Prelude.{◌≡◌, true, ◌≤◌};
+ghost use Rattle.std.specs.Prelude.{◌≡◌, false, ◌≤◌};
 ghost use Rattle.std.proofs.Math.Option.{none};
-ghost use Rattle.rules.specs.Book.{dim, frame_right, rows_right};
+ghost use Rattle.rules.specs.Book.{dim};
 ghost use Rattle.rules.specs.Broken.{broken_at, told};
 ghost use Rattle.rules.specs.Plain.{mesh_in, plain_number, plain_yes};
-ghost use Rattle.plain.specs.Answers.{worked_number, worked_yes, worked_place, by_counts, said_of};
+ghost use Rattle.kinds.specs.Refusals.{answer_number, answer_place, given};
+ghost use Rattle.plain.specs.Answers.{by_counts, said_of};
 
-pub use answers::WorkedOut;
 use incidence::worked_out;
+use kinds::Refusal;
 use numbering::Entity;
-use rows::Rows;
-use stored::Sizes;
+use right::RightBook;
+use stored::{Mesh, Sizes};
 
 // The answer from the cells of a right book. Refusals: 17 for i, 19 for j.
-fn from_cells(book: &[u32], d: u32, e: u32, i: u32, j: u32) -> WorkedOut
-    requires fact_1 { (frame_right book.now ≡ true) × (rows_right book.now ≡ true) }
-    requires fact_2 { (d ≤ dim book.now) × (e ≤ dim book.now) }
-    ensures number { worked_number result ≡ by_counts (mesh_in book.now) d e i j }
-    ensures yes { worked_yes result ≡ said_of (mesh_in book.now) d e i j }
-    ensures place { worked_place result ≡ none }
+fn from_cells(book: &RightBook<'_>, d: u32, e: u32, i: u32, j: u32) -> Result<bool, Refusal>
+    requires { (d ≤ dim book.now) × (e ≤ dim book.now) }
+    ensures number { answer_number result ≡ by_counts (mesh_in book.now) d e i j }
+    ensures yes { given false (λ y. y) result ≡ said_of (mesh_in book.now) d e i j }
+    ensures place { answer_place result ≡ none }
 {
-    let top = book::dim(book);
+    let top = book.dim();
     let sizes = Sizes {
         dim: top as usize,
-        cells: book::count(book, top) as usize,
-        vertices: book::count(book, 0),
+        cells: book.count(top) as usize,
+        vertices: book.count(0),
+    };
+    let mesh = Mesh {
+        words: cells::cells(book.words()),
+        sizes,
     };
     worked_out(
-        cells::cells(book),
-        sizes,
+        &mesh,
         Entity {
             dim: d as usize,
             number: i,
@@ -51,23 +53,18 @@ fn from_cells(book: &[u32], d: u32, e: u32, i: u32, j: u32) -> WorkedOut
 }
 
 // Whether (e, j) is incident to (d, i). Refusals: 10, 11, 12, then 17 for i and 19 for j, by its own counts.
-pub fn plain(book: &[u32], d: u32, e: u32, i: u32, j: u32) -> WorkedOut
-    ensures number { worked_number result ≡ plain_number book.now d e i j }
-    ensures yes { worked_yes result ≡ plain_yes book.now d e i j }
-    ensures place { worked_place result ≡ told (plain_number book.now d e i j) (broken_at book.now) }
+pub fn plain(book: &[u32], d: u32, e: u32, i: u32, j: u32) -> Result<bool, Refusal>
+    ensures number { answer_number result ≡ plain_number book.now d e i j }
+    ensures yes { given false (λ y. y) result ≡ plain_yes book.now d e i j }
+    ensures place { answer_place result ≡ told (plain_number book.now d e i j) (broken_at book.now) }
 {
-    if !frame::frame_right(book) {
-        return WorkedOut::FrameBroken;
-    }
-    if let Rows::BrokenAt(place) = rows::broken_at(book) {
-        return WorkedOut::RowsBroken(place);
-    }
-    let top = book::dim(book);
+    let right = RightBook::check(book)?;
+    let top = right.dim();
     if d > top {
-        return WorkedOut::DimensionOver;
+        return Err(Refusal::DimensionOver);
     }
     if e > top {
-        return WorkedOut::DimensionOver;
+        return Err(Refusal::DimensionOver);
     }
-    from_cells(book, d, e, i, j)
+    from_cells(&right, d, e, i, j)
 }

@@ -1,75 +1,39 @@
-// Vertex sets of up to four members, in an array: the first n of it.
-ghost use Rattle.std.specs.Prelude.{◌≡◌, ◌&&◌, ◌≤◌, length, take};
-ghost use Rattle.rules.specs.Lists.{has, inside, meets};
+// Vertex sets: their members, and whether one lies inside another or meets it.
+ghost use Rattle.std.specs.Prelude.{◌≡◌, ◌==◌, ◌&&◌, length};
+ghost use Rattle.std.specs.List.{list_any, list_all};
 ghost use Rattle.plain.specs.Links.{FirstOf};
 
 // Whether v is a member.
-pub(crate) fn has_vertex(set: [u32; 4], n: usize, v: u32) -> bool
-    requires { (n ≤ 4) × (length set ≡ 4) }
-    ensures { result ≡ has v (take n set) }
+pub(crate) fn has_vertex(set: &[u32], v: u32) -> bool
+    ensures { result ≡ list_any (λ w. w == v) set.now }
 {
-    let mut k: usize = 0;
-    while k < n {
-        if set[k] == v {
-            return true;
-        }
-        k += 1;
-    }
-    false
+    set.iter().any(|w| *w == v)
 }
 
 // Whether u and v are both members.
-pub(crate) fn has_both(set: [u32; 4], n: usize, u: u32, v: u32) -> bool
-    requires { (n ≤ 4) × (length set ≡ 4) }
-    ensures { result ≡ (has u (take n set) && has v (take n set)) }
+pub(crate) fn has_both(set: &[u32], u: u32, v: u32) -> bool
+    ensures { result ≡ (list_any (λ w. w == u) set.now && list_any (λ w. w == v) set.now) }
 {
-    if !has_vertex(set, n, u) {
-        return false;
-    }
-    has_vertex(set, n, v)
+    has_vertex(set, u) && has_vertex(set, v)
 }
 
 // Whether every member of a is one of b.
-pub(crate) fn inside_of(a: [u32; 4], an: usize, b: [u32; 4], bn: usize) -> bool
-    requires { ((an ≤ 4) × (length a ≡ 4)) × ((bn ≤ 4) × (length b ≡ 4)) }
-    ensures { result ≡ inside (take an a) (take bn b) }
+pub(crate) fn inside_of(a: &[u32], b: &[u32]) -> bool
+    ensures { result ≡ list_all (λ v. list_any (λ w. w == v) b.now) a.now }
 {
-    let mut k: usize = 0;
-    while k < an {
-        if !has_vertex(b, bn, a[k]) {
-            return false;
-        }
-        k += 1;
-    }
-    true
+    a.iter().all(|v| has_vertex(b, *v))
 }
 
 // Whether some member of a is one of b.
-pub(crate) fn meets_of(a: [u32; 4], an: usize, b: [u32; 4], bn: usize) -> bool
-    requires { ((an ≤ 4) × (length a ≡ 4)) × ((bn ≤ 4) × (length b ≡ 4)) }
-    ensures { result ≡ meets (take an a) (take bn b) }
+pub(crate) fn meets_of(a: &[u32], b: &[u32]) -> bool
+    ensures { result ≡ list_any (λ v. list_any (λ w. w == v) b.now) a.now }
 {
-    let mut k: usize = 0;
-    while k < an {
-        if has_vertex(b, bn, a[k]) {
-            return true;
-        }
-        k += 1;
-    }
-    false
+    a.iter().any(|v| has_vertex(b, *v))
 }
 
-// The place of v among the members, or n where it is none.
-pub(crate) fn corner_of(set: [u32; 4], n: usize, v: u32) -> usize
-    requires { (n ≤ 4) × (length set ≡ 4) }
-    ensures { FirstOf set n v result }
+// The place of v among the members, or how many they are where it is none.
+pub(crate) fn corner_of(set: &[u32], v: u32) -> usize
+    ensures { FirstOf set.now (length set.now) v result }
 {
-    let mut k: usize = 0;
-    while k < n {
-        if set[k] == v {
-            return k;
-        }
-        k += 1;
-    }
-    n
+    set.iter().position(|w| *w == v).unwrap_or(set.len())
 }

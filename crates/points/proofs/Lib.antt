@@ -1,4 +1,4 @@
 -- Laws for the proofs of this crate.
-mod Stamps
+mod Stamping
 mod PointRows
 mod Made

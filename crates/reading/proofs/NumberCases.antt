@@ -20,14 +20,6 @@ unfoldable pub missing : List ℕ → ℕ → Bool
 missing ws d = ltb d (dim ws) && not (held ws (key d 0))
 
 module _ (ws : List ℕ) where
-  pub euler-10 : frame_right ws ≡ false → 10 ≡ euler_number ws
-  unfolding euler_number euler_rules first_broken
-  euler-10 f = rw f
-
-  pub euler-11 : frame_right ws ≡ true → rows_right ws ≡ false → 11 ≡ euler_number ws
-  unfolding euler_number euler_rules first_broken
-  euler-11 f r = rw (f, r)
-
   pub euler-15-edges : frame_right ws ≡ true → rows_right ws ≡ true → missing ws 1 ≡ true → 15 ≡ euler_number ws
   unfolding euler_number euler_rules first_broken missing
   euler-15-edges f r e = rw (f, r, e)

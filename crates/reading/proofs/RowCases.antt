@@ -2,8 +2,7 @@
 use mathlib.Core.Path.{◌≡◌, refl, sym, ◌∙◌}
 use mathlib.Core.Bool.{Bool, true, false, cond, not, ◌&&◌}
 use mathlib.Core.List.{List}
-use mathlib.Core.Logic.{inl, inr}
-use mathlib.Core.Option.{none, some}
+use mathlib.Core.Option.{some}
 use Prim.Native.Nat.{ℕ, ◌+◌, ◌≤◌, ◌<◌}
 use native.Mathlib.Omega.{arith}
 use lib.ListN.{length}
@@ -11,11 +10,9 @@ use lib.Dec.{eqb, ltb, leb}
 use borrow.Author.Tests.{eq-eqb, lt-ltb, le-ltb, le-leb, lt-leb, leb-true, not-true, not-false}
 use Rattle.rules.specs.Lists.{all_of}
 use Rattle.rules.specs.Book.{dim, count, key, held, offset, total, row_start, frame_right}
-use Rattle.rules.specs.Broken.{broken_offset, row_broken_at, told}
+use Rattle.rules.specs.Broken.{broken_offset, row_broken_at}
 use Rattle.rules.specs.Calls.{first_broken, row_rules, row_number, find_number}
-use Rattle.rules.proofs.Compared.{lt-or-le}
 use Rattle.rules.proofs.Tests.{left, right}
-use Rattle.rules.proofs.Told.{untold-as}
 use Rattle.rules.proofs.FrameRule.{framed, room}
 use Rattle.rules.proofs.Accepted.{unbroken, rowed, find-is}
 
@@ -69,10 +66,6 @@ module _ (ws : List ℕ) (d e i : ℕ) where
 
     pub find-0 : j < count ws e → find_number ws d e i j ≡ 0
     find-0 l = find-is ws d e i j ∙ rw (eq-eqb _ 0 z, lt-leb (count ws e) j l)
-
-    -- and no place is told
-    pub accepted-told : none ≡ told (find_number ws d e i j) (row_broken_at ws d e i)
-    accepted-told = elim (lt-or-le j (count ws e)) [ inl l ↦ untold-as 0 _ _ refl (sym (find-0 l)) | inr l ↦ untold-as 19 _ _ refl (find-19 l) ]
 
   -- where it does not, its number is Find's
   pub find-as-row : (n j : ℕ) → eqb n 0 ≡ false → n ≡ row_number ws d e i → n ≡ find_number ws d e i j

@@ -1,6 +1,6 @@
 -- The file of a right book, from its first word and its cells.
 use mathlib.Core.Path.{◌≡◌, refl, sym, ◌∙◌}
-use mathlib.Core.Bool.{true, false, cond}
+use mathlib.Core.Bool.{true, cond}
 use mathlib.Core.List.{List, ◌++◌}
 use Prim.Native.Nat.{ℕ, suc, ◌≤◌, ◌<◌}
 use native.Mathlib.Omega.{arith}
@@ -49,15 +49,6 @@ unfolding write_bytes
 bytes_of ws bs n e = rw (e, ne_eqb (suc n) 0 (λ q. omega arith))
 
 module _ (ws bs : List ℕ) where
-  refused : (n l : ℕ) → write_number ws bs ≡ suc n → Puts ws bs (suc n) l bs
-  refused n l e = record { number_is = sym e; length-is = λ z. absurd (omega arith); bytes-are = sym (bytes_of ws bs n e) }
-
-  pub frame-broken : frame_right ws ≡ false → Puts ws bs 10 0 bs
-  frame-broken f = refused 9 0 (unfold write_number write_rules first_broken in rw f)
-
-  pub rows-broken : frame_right ws ≡ true → rows_right ws ≡ false → Puts ws bs 11 0 bs
-  rows-broken f r = refused 10 0 (unfold write_number write_rules first_broken in rw (f, r))
-
   module _ (f : frame_right ws ≡ true) (r : rows_right ws ≡ true) (n : ℕ) (cs : List ℕ) (p : FilePut ws bs n cs) where
     pub too_short : length bs < n → Puts ws bs 18 0 cs
     too_short l =

@@ -1,61 +1,48 @@
 // Find: whether an index is in a row. The row is read from its front, and no further than the answer needs.
-ghost use Rattle.std.specs.Prelude.{◌≡◌};
-ghost use Rattle.std.proofs.Math.Option.{none};
+ghost use Rattle.std.specs.Prelude.{◌≡◌, false};
 ghost use Rattle.rules.specs.Broken.{row_broken_at, told};
-ghost use Rattle.rules.specs.Calls.{row_number, found_in, read_in, find_number, find_found, find_read};
-ghost use Rattle.reading.specs.Answers.{found_number, found_yes, found_read, found_place};
+ghost use Rattle.rules.specs.Calls.{found_in, read_in, find_number, find_found, find_read};
+ghost use Rattle.kinds.specs.Refusals.{answer_number, answer_place, given};
 
-use crate::answers::{Found, RowAnswer};
 use crate::parts::row_answer;
+use kinds::Refusal;
+
+// What a search found: yes or no, and the number of indices read.
+#[derive(Clone, Copy)]
+pub struct Found {
+    pub yes: bool,
+    pub read: usize,
+}
 
 // Whether j is in a row, and how many of its indices are read: those below j that lead, and the one after them, if there is one.
 fn search(row: &[u32], j: u32) -> Found
-    ensures { result ≡ Found.Searched (found_in j row.now) (read_in j row.now) }
+    ensures yes { result.yes ≡ found_in j row.now }
+    ensures read { result.read ≡ read_in j row.now }
 {
-    let mut read: usize = 0;
-    while read < row.len() {
-        let index = row[read];
-        if j <= index {
-            return Found::Searched {
-                yes: j == index,
+    for (read, index) in row.iter().enumerate() {
+        if j <= *index {
+            return Found {
+                yes: j == *index,
                 read: read + 1,
             };
         }
-        read += 1;
     }
-    Found::Searched {
+    Found {
         yes: false,
-        read: read,
+        read: row.len(),
     }
-}
-
-// The search in row i of d→e, which Row accepts. Refusal: 19 where j is N_e or more.
-fn search_row(book: &[u32], d: u32, e: u32, i: u32, j: u32) -> Found
-    requires { row_number book.now d e i ≡ 0 }
-    ensures number { found_number result ≡ find_number book.now d e i j }
-    ensures yes { found_yes result ≡ find_found book.now d e i j }
-    ensures read { found_read result ≡ find_read book.now d e i j }
-    ensures place { found_place result ≡ none }
-{
-    if j >= book::count(book, e) {
-        return Found::NoSuchIndex;
-    }
-    search(rows::row(book, book::key(d, e), i), j)
 }
 
 // Whether j is in row i of d→e, and how many of the row's indices were read. Refusals: 10, 12, 16, 17, 11, then 19 where j is N_e or more.
-pub fn find(book: &[u32], d: u32, e: u32, i: u32, j: u32) -> Found
-    ensures number { found_number result ≡ find_number book.now d e i j }
-    ensures yes { found_yes result ≡ find_found book.now d e i j }
-    ensures read { found_read result ≡ find_read book.now d e i j }
-    ensures place { found_place result ≡ told (find_number book.now d e i j) (row_broken_at book.now d e i) }
+pub fn find(book: &[u32], d: u32, e: u32, i: u32, j: u32) -> Result<Found, Refusal>
+    ensures number { answer_number result ≡ find_number book.now d e i j }
+    ensures yes { given false (λ f. f.yes) result ≡ find_found book.now d e i j }
+    ensures read { given 0 (λ f. f.read) result ≡ find_read book.now d e i j }
+    ensures place { answer_place result ≡ told (find_number book.now d e i j) (row_broken_at book.now d e i) }
 {
-    match row_answer(book, d, e, i) {
-        RowAnswer::Accepted => search_row(book, d, e, i, j),
-        RowAnswer::FrameBroken => Found::FrameBroken,
-        RowAnswer::DimensionOver => Found::DimensionOver,
-        RowAnswer::NotHeld => Found::NotHeld,
-        RowAnswer::NoSuchEntity => Found::NoSuchEntity,
-        RowAnswer::RowsBroken(place) => Found::RowsBroken(place),
+    row_answer(book, d, e, i)?;
+    if j >= book::count(book, e) {
+        return Err(Refusal::NoSuchIndex);
     }
+    Ok(search(rows::row(book, book::key(d, e), i), j))
 }

@@ -3,12 +3,11 @@ ghost use Rattle.std.specs.Prelude.{◌≡◌, cond, ◌&&◌, ◌+◌, ◌<◌,
 ghost use Rattle.rules.specs.Book.{offset, total};
 ghost use Rattle.rules.specs.Broken.{row_broken_at, told};
 ghost use Rattle.rules.specs.Calls.{row_number};
-ghost use Rattle.reading.specs.Answers.{row_answer, row_answer_place};
+ghost use Rattle.kinds.specs.Refusals.{answer_number, answer_place};
 ghost use Rattle.reading.specs.Parts.{RowOf};
 
-use crate::answers::{RowAnswer, row_number};
 use book::Place;
-use rows::Broken;
+use kinds::{Broken, Refusal};
 
 // Whether row i's own two offsets are first ≤ second ≤ total.
 fn offsets_right(book: &[u32], k: u32, i: u32) -> bool
@@ -36,41 +35,41 @@ fn broken_offset(book: &[u32], k: u32, i: u32) -> usize
 }
 
 // Row's answer. Refusals: 10, 12, 16, 17, and 11 where the row's own two offsets are broken, with the one that is.
-pub fn row_answer(book: &[u32], d: u32, e: u32, i: u32) -> RowAnswer
-    ensures number { row_answer result ≡ row_number book.now d e i }
-    ensures place { row_answer_place result ≡ told (row_number book.now d e i) (row_broken_at book.now d e i) }
+pub fn row_answer(book: &[u32], d: u32, e: u32, i: u32) -> Result<(), Refusal>
+    ensures number { answer_number result ≡ row_number book.now d e i }
+    ensures place { answer_place result ≡ told (row_number book.now d e i) (row_broken_at book.now d e i) }
 {
     if !frame::frame_right(book) {
-        return RowAnswer::FrameBroken;
+        return Err(Refusal::FrameBroken);
     }
     let top = book::dim(book);
     if d > top {
-        return RowAnswer::DimensionOver;
+        return Err(Refusal::DimensionOver);
     }
     if e > top {
-        return RowAnswer::DimensionOver;
+        return Err(Refusal::DimensionOver);
     }
     let k = book::key(d, e);
     if !book::held(book, k) {
-        return RowAnswer::NotHeld;
+        return Err(Refusal::NotHeld);
     }
     if i >= book::count(book, d) {
-        return RowAnswer::NoSuchEntity;
+        return Err(Refusal::NoSuchEntity);
     }
     if !offsets_right(book, k, i) {
-        return RowAnswer::RowsBroken(Broken {
+        return Err(Refusal::RowsBroken(Broken {
             key: k,
             position: broken_offset(book, k, i),
-        });
+        }));
     }
-    RowAnswer::Accepted
+    Ok(())
 }
 
 // Row i of d→e, as the part of the book that it is; empty on a refusal, which `row_answer` gives.
 pub fn row(book: &[u32], d: u32, e: u32, i: u32) -> &[u32]
     ensures { RowOf book.entry result d e i }
 {
-    if row_number(row_answer(book, d, e, i)) != 0 {
+    if row_answer(book, d, e, i).is_err() {
         return &book[0..0];
     }
     rows::row(book, book::key(d, e), i)

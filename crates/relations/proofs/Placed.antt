@@ -74,6 +74,10 @@ module _ {ws : List ℕ} {at n m : ℕ} (r : Rows ws at n m) where
   unfolding start_of
   start-rises i k h l = omega (arith, offsets-rise i k h l)
 
+  -- row i stands between its start and that of the next, within the m words
+  pub row-bounds : (i : ℕ) → i < n → (start_of ws at n i ≤ start_of ws at n (i + 1)) × (start_of ws at n (i + 1) ≤ m)
+  row-bounds i h = (start-rises i (i + 1) (omega arith) (omega arith), start-fit (i + 1) (omega arith))
+
   pub rows-within : (k : ℕ) → m ≤ k → Rows ws at n k
   rows-within k l = record { first = r.first; rise = r.rise; fit = omega (arith, r.fit) }
 

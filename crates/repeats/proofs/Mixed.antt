@@ -1,11 +1,10 @@
 -- A row's words mixed, one more in front, and the bucket that they give.
-use mathlib.Core.Path.{◌≡◌}
-use mathlib.Core.List.{List, [], ◌∷◌}
+use mathlib.Core.Path.{◌≡◌, refl, ◌∙◌, ap}
+use mathlib.Core.List.{List, [], ◌∷◌, reverse, reverse-cons}
 use Prim.Native.Nat.{ℕ, ◌+◌, ◌*◌, ◌%◌, ◌<◌}
-use native.Mathlib.Numerals.{add-one}
 use native.Mathlib.Omega.{arith}
-use lib.ListN.{length, get_or, drop}
-use lib.Seq.{drop-cons}
+use Rattle.std.specs.List.{fold}
+use Rattle.std.proofs.lemmas.List.Sums.{fold_push}
 use Rattle.repeats.specs.Rows.{mixed, bucket_of}
 
 pub mixed-below : (xs : List ℕ) → mixed xs < 4294967296
@@ -13,9 +12,15 @@ unfolding mixed
 mixed-below [] = omega arith
 mixed-below (x ∷ xs) = omega arith
 
-pub mixed-more : (xs : List ℕ) (j : ℕ) → j < length xs → mixed (drop j xs) ≡ (mixed (drop (j + 1) xs) + get_or xs j 0) % 4294967296 * 2654435761 % 4294967296
+-- one word more
+abbrev pub mix : ℕ → ℕ → ℕ
+mix a x = (a + x) % 4294967296 * 2654435761 % 4294967296
+
+-- the words mixed from the last to the first
+pub mixed-is : (xs : List ℕ) → fold mix 0 (reverse xs) ≡ mixed xs
 unfolding mixed
-mixed-more xs j l = rw (add-one, drop-cons xs j 0 l)
+mixed-is [] = refl
+mixed-is (x ∷ xs) = rw (reverse-cons x xs) (fold_push mix 0 (reverse xs) x ∙ ap (λ a. mix a x) (mixed-is xs))
 
 pub bucket-below : (xs : List ℕ) → bucket_of xs < 8192
 unfolding bucket_of

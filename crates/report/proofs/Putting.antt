@@ -1,11 +1,12 @@
--- A text that is put byte by byte: nothing, one byte, and one text behind another; at the front, it is printed.
+-- A text that is put byte by byte: nothing, one text behind another, and a larger bound; at the front, it is printed. And the same of a printer.
 use mathlib.Core.Path.{◌≡◌, refl, sym, ap, ◌∙◌}
 use mathlib.Core.List.{List, [], ◌∷◌, ◌++◌}
 use Prim.Native.Nat.{ℕ, suc, ◌+◌, ◌≤◌}
 use native.Mathlib.Omega.{arith}
 use lib.ListN.{length, take, drop, set, length-append}
 use lib.Seq.{sets, length-sets, drop-nil}
-use Rattle.report.specs.Printed.{Put, Printed}
+use Rattle.report.specs.declared.printer.Printer.{Printer}
+use Rattle.report.specs.Printed.{Put, Puts, Printed}
 
 -- stores of two texts, one behind the other
 sets-append : (bs : List ℕ) (at : ℕ) (xs ys : List ℕ) → sets bs at (xs ++ ys) ≡ sets (sets bs at xs) (at + length xs) ys
@@ -57,6 +58,30 @@ pub printed : {m : ℕ} {bs text : List ℕ} {r : ℕ} {cs : List ℕ} → Put m
 printed {m} {bs} {text} {r} {cs} p =
     let e : r ≡ length text = omega (arith, p.place) in
     record { size = e; short = omega (arith, p.short); bytes = rw e (p.bytes ∙ sets-front bs text) }
+
+-- ---- a printer
+pub puts-none : (p : Printer) → Puts 0 p [] p
+puts-none p = record { lent = refl; put = put-none _ _ }
+
+-- a larger bound on the text
+pub puts-wide : {m : ℕ} {p q : Printer} {text : List ℕ} (n : ℕ) → length text ≤ n → Puts m p text q → Puts n p text q
+puts-wide n l a = record { lent = a.lent; put = put-wide n l a.put }
+
+pub puts-within : {m : ℕ} (n : ℕ) {p q : Printer} {text : List ℕ} → m ≤ n → Puts m p text q → Puts n p text q
+puts-within n h a = record { lent = a.lent; put = put-within n h a.put }
+
+-- one text behind another
+pub puts_then : {m n : ℕ} {p q r : Printer} {text more : List ℕ} → Puts m p text q → Puts n q more r → Puts (m + n) p (text ++ more) r
+puts_then a b = record { lent = b.lent ∙ a.lent; put = put_then a.put b.put }
+
+-- what a printer that began at the front has put is printed
+pub puts_printed : {m g : ℕ} {bs cs text : List ℕ} {p q : Printer} → Puts m p text q → p.out.ghost_name ≡ g → p.out.now ≡ bs → p.at ≡ 0
+    → (g ≡ q.out.ghost_name → cs ≡ q.out.now) → Printed m text bs q.at cs
+puts_printed {bs = bs} {cs = cs} {text = text} {q = q} a name old front new = printed (record {
+  place = a.put.place ∙ rw front refl;
+  short = a.put.short;
+  bytes = new (sym name ∙ sym a.lent) ∙ a.put.bytes ∙ rw (old, front) refl;
+})
 
 -- a text of at most m bytes is one of at most n
 pub printed-wide : {m : ℕ} (n : ℕ) {text bs : List ℕ} {r : ℕ} {cs : List ℕ} → m ≤ n → Printed m text bs r cs → Printed n text bs r cs

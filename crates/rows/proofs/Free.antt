@@ -1,98 +1,72 @@
 -- The free words, run by run.
-use mathlib.Core.Path.{◌≡◌, refl, sym, ◌∙◌}
-use mathlib.Core.Bool.{Bool, true, false, not, ◌&&◌, ◌||◌}
-use mathlib.Core.Logic.{inl, inr}
-use mathlib.Core.List.{List, [], ◌∷◌}
+use mathlib.Core.Path.{◌≡◌, refl, sym, ap, ◌∙◌}
+use mathlib.Core.Bool.{Bool, true, false, cond, not, ◌&&◌, true≢false}
+use mathlib.Core.Logic.{◌⊎◌, inl, inr}
+use mathlib.Core.List.{List, [], ◌∷◌, ◌++◌}
 use mathlib.Core.Option.{none, some}
-use Prim.Native.Nat.{ℕ, ◌+◌, ◌-◌, ◌≤◌, ◌<◌}
+use Prim.Native.Nat.{ℕ, suc, ◌+◌, ◌-◌, ◌≤◌, ◌<◌}
 use native.Mathlib.Omega.{arith}
-use lib.ListN.{length, get_or, take, drop, length-take, length-drop}
-use lib.Seq.{get_or-take, get_or-drop}
+use lib.ListN.{length, get_or, drop, length-drop}
 use lib.Dec.{eqb, ltb}
-use borrow.Author.Tests.{ltb-true}
-use Rattle.rules.specs.Lists.{up_to, any_of, all_of, first_at}
+use borrow.Author.Tests.{lt-ltb, le-ltb}
+use lib.Bits.{bit_or}
+use Rattle.std.specs.Prelude.{Some, None}
+use Rattle.std.specs.Option.{unwrap_or}
+use Rattle.std.specs.List.{fold, position_or_len}
+use Rattle.std.proofs.Math.Bool.{and_assoc, and-true}
+use Rattle.rules.specs.Lists.{up_to, all_of, first_at}
 use Rattle.rules.specs.Book.{held}
 use Rattle.rules.specs.Broken.{relation_bad, broken_key, broken_place, rows_broken, broken_at}
-use Rattle.rules.proofs.Tests.{all-place, any_none}
+use Rattle.rules.proofs.Tests.{left, right, any_none}
+use Rattle.rules.proofs.Steps.{or-none}
 use Rattle.rules.proofs.Keep.{up_to-is}
 use Rattle.rules.proofs.BrokenSteps.{Fine, key-none}
 use Rattle.rules.proofs.Compared.{lt-or-le}
-use Rattle.rules.proofs.Searched.{any-first, first-is, first-before, first_passes}
+use Rattle.rules.proofs.Searched.{any-first, first-most}
 
 -- a word that is not 0
 abbrev pub set_word : ℕ → Bool
 set_word w = not (eqb 0 w)
 
--- where not all are 0, some word is not
-any-set : (xs : List ℕ) → all_of (eqb 0) xs ≡ false → any_of set_word xs ≡ true
-unfolding any_of all_of
-any-set [] q = sym q
-any-set (x ∷ xs) q = go (eqb 0 x) q (any-set xs)
+-- words put together by or are 0 exactly if each of them is
+pub together-none : (a : ℕ) (xs : List ℕ) → eqb (fold bit_or a xs) 0 ≡ (eqb a 0 && all_of (eqb 0) xs)
+unfolding all_of
+together-none a [] = sym (and-true (eqb a 0))
+together-none a (x ∷ xs) = together-none (bit_or a x) xs ∙ ap (λ (b : Bool). b && all_of (eqb 0) xs) (or-none a x) ∙ and_assoc (eqb a 0) (eqb 0 x) (all_of (eqb 0) xs)
+
+-- the first place, as std finds it
+place-is : (p : ℕ → Bool) (xs : List ℕ) → position_or_len p xs ≡ first_at p xs
+unfolding first_at
+place-is p [] = refl
+place-is p (x ∷ xs) = go (p x) (place-is p xs)
   where
-    go : (b : Bool) → (b && all_of (eqb 0) xs) ≡ false → (all_of (eqb 0) xs ≡ false → any_of set_word xs ≡ true) → (not b || any_of set_word xs) ≡ true
-    go true h f = f h
+    go : (b : Bool) → position_or_len p xs ≡ first_at p xs → cond (not b) (1 + position_or_len p xs) 0 ≡ cond b 0 (suc (first_at p xs))
+    go true e = refl
+    go false e = omega arith
+
+pub place-or-length : (p : ℕ → Bool) (xs : List ℕ)
+    → unwrap_or (cond (ltb (position_or_len p xs) (length xs)) (Some (position_or_len p xs)) None) (length xs) ≡ first_at p xs
+place-or-length p xs = rw (place-is p xs) (go (lt-or-le (first_at p xs) (length xs)))
+  where
+    go : (first_at p xs < length xs) ⊎ (length xs ≤ first_at p xs) → unwrap_or (cond (ltb (first_at p xs) (length xs)) (Some (first_at p xs)) None) (length xs) ≡ first_at p xs
+    go (inl l) = rw (lt-ltb _ _ l)
+    go (inr l) = let m = first-most p 0 xs in rw (le-ltb _ _ l) (omega arith)
+
+-- ---- the first word that is not 0, run by run
+pub run_passed : (xs ys : List ℕ) → all_of (eqb 0) xs ≡ true → first_at set_word (xs ++ ys) ≡ length xs + first_at set_word ys
+unfolding all_of first_at
+run_passed [] ys z = omega arith
+run_passed (x ∷ xs) ys z = let h = run_passed xs ys (right (eqb 0 x) _ z) in rw (left (eqb 0 x) _ z) (omega arith)
+
+pub run-found : (xs ys : List ℕ) → all_of (eqb 0) xs ≡ false → first_at set_word (xs ++ ys) ≡ first_at set_word xs
+unfolding all_of first_at
+run-found [] ys z = absurd (true≢false z)
+run-found (x ∷ xs) ys z = go (eqb 0 x) z (run-found xs ys)
+  where
+    go : (b : Bool) → (b && all_of (eqb 0) xs) ≡ false → (all_of (eqb 0) xs ≡ false → first_at set_word (xs ++ ys) ≡ first_at set_word xs)
+        → cond (not b) 0 (suc (first_at set_word (xs ++ ys))) ≡ cond (not b) 0 (suc (first_at set_word xs))
+    go true h f = ap suc (f h)
     go false h f = refl
-
-some-set : (xs : List ℕ) → all_of (eqb 0) xs ≡ false → first_at set_word xs < length xs
-some-set xs h = ltb-true _ _ (sym (any-first set_word xs) ∙ any-set xs h)
-
--- the words from `used` up to `at` are 0
-module _ (ws : List ℕ) (used at : ℕ) (l : used ≤ at) (passed : (q : ℕ) → used ≤ q → q < at → q < length ws → eqb 0 (get_or ws q 0) ≡ true) where
-  word_at : (j : ℕ) → get_or (drop used ws) j 0 ≡ get_or ws (used + j) 0
-  word_at j = get_or-drop used ws j 0
-
-  run_at : (j : ℕ) → j < 256 → get_or (take 256 (drop at ws)) j 0 ≡ get_or ws (at + j) 0
-  run_at j m = get_or-take 256 (drop at ws) j 0 m ∙ get_or-drop at ws j 0
-
-  before : (j : ℕ) → used + j < at → used + j < length ws → set_word (get_or (drop used ws) j 0) ≡ false
-  before j m h = rw (word_at j, passed (used + j) (omega arith) m h)
-
-  run_long : (j : ℕ) → j < 256 → at + j < length ws → j < length (take 256 (drop at ws))
-  run_long j m h = simp (length-take, length-drop) (omega arith)
-
-  -- a run of zeros
-  pub run_more : all_of (eqb 0) (take 256 (drop at ws)) ≡ true → (q : ℕ) → used ≤ q → q < at + 256 → q < length ws → eqb 0 (get_or ws q 0) ≡ true
-  run_more z q a b h = elim (lt-or-le q at) [
-    | inl m ↦ passed q a m h
-    | inr m ↦
-        let j : ℕ = q - at in
-        let e : at + (q - at) ≡ q = omega arith in
-        let u = all-place (eqb 0) (take 256 (drop at ws)) 0 z (q - at) (run_long (q - at) (omega arith) (omega arith)) in
-        rw (run_at (q - at) (omega arith), e) at u
-  ]
-
-  -- a run with a word that is not 0
-  pub run-found : all_of (eqb 0) (take 256 (drop at ws)) ≡ false → at - used + first_at set_word (take 256 (drop at ws)) ≡ first_at set_word (drop used ws)
-  run-found z = sym (first-is set_word 0 (drop used ws) (at - used + g) (rw length-drop (omega (arith, low))) early (λ m. late))
-    where
-      g : ℕ
-      g = first_at set_word (take 256 (drop at ws))
-
-      inner : first_at set_word (take 256 (drop at ws)) < length (take 256 (drop at ws))
-      inner = some-set (take 256 (drop at ws)) z
-
-      low : (first_at set_word (take 256 (drop at ws)) < 256) × (at + first_at set_word (take 256 (drop at ws)) < length ws)
-      low = (omega (arith, inner, length-take 256 (drop at ws)), omega (arith, inner, length-take 256 (drop at ws), length-drop at ws))
-
-      early : (j : ℕ) → j < at - used + first_at set_word (take 256 (drop at ws)) → set_word (get_or (drop used ws) j 0) ≡ false
-      early j m = elim (lt-or-le (used + j) at) [
-        | inl h ↦ before j h (omega (arith, low))
-        | inr h ↦
-            let e : at + (used + j - at) ≡ used + j = omega arith in
-            let u = first-before set_word 0 (take 256 (drop at ws)) (used + j - at) (omega arith) in
-            rw (word_at j) (rw (run_at (used + j - at) (omega (arith, low)), e) at u)
-      ]
-
-      late : set_word (get_or (drop used ws) (at - used + first_at set_word (take 256 (drop at ws))) 0) ≡ true
-      late =
-          let e : used + (at - used + first_at set_word (take 256 (drop at ws))) ≡ at + first_at set_word (take 256 (drop at ws)) = omega arith in
-          let u = first_passes set_word 0 (take 256 (drop at ws)) inner in
-          rw (word_at (at - used + first_at set_word (take 256 (drop at ws))), e) (rw (run_at (first_at set_word (take 256 (drop at ws))) low.0) at u)
-
-  -- all of them
-  pub runs-all : length ws ≤ at → used ≤ length ws → length ws - used ≡ first_at set_word (drop used ws)
-  runs-all h f =
-      sym (first-is set_word 0 (drop used ws) (length ws - used) (rw length-drop (omega arith)) (λ j m. before j (omega arith) (omega arith)) (λ m. absurd (omega (arith, length-drop used ws))))
 
 -- ---- where no relation shows a fault, they decide
 module _ (ws : List ℕ) (f : Fine ws 16) where

@@ -6,7 +6,7 @@ use mathlib.Core.List.{List}
 use Prim.Native.Nat.{ℕ, suc, ◌+◌, ◌-◌, ◌/◌, ◌%◌, ◌≤◌, ◌<◌}
 use native.Mathlib.Numerals.{add-one}
 use native.Mathlib.Omega.{arith}
-use lib.ListN.{length, get_or, length-take}
+use lib.ListN.{length, get_or, length-take, length-drop}
 use lib.Dec.{eqb, ltb, leb}
 use borrow.Author.Tests.{ltb-false, lt-ltb, lt-leb, le-leb}
 use Rattle.rules.specs.Lists.{up_to, all_of, ascends, first_at}
@@ -53,10 +53,10 @@ pub step-read : (ws : List ℕ) (k p a b size : ℕ) (bad : Bool) → a ≡ offs
     → offset_bad ws k (p + 1) ≡ bad
 step-read ws k p a b size bad x y z e = rw (add-one p) (offset_step ws k p ∙ sym (e ∙ rw (x, y, z)))
 
--- a row is no longer than its end offset says
-pub row-short : (ws : List ℕ) (k i : ℕ) → length (row_of ws k i) ≤ offset ws k (i + 1)
+-- a row is no longer than the book
+pub row-short : (ws : List ℕ) (k i : ℕ) → length (row_of ws k i) ≤ length ws
 unfolding row_of
-row-short ws k i = rw length-take (omega arith)
+row-short ws k i = simp (length-take, length-drop) (omega arith)
 
 -- ---- the indices of a row
 module _ (row : List ℕ) (bound : ℕ) where

@@ -1,7 +1,7 @@
 // The row rule, relation by relation in book order, with where it is first seen to break; and a row as a part of the book.
 #![tactic(auto)]
 
-ghost use Rattle.std.specs.Prelude.{◌≡◌, true, not, ◌&&◌, ℕ, ◌+◌, ◌-◌, ◌*◌, ◌/◌, ◌%◌, ◌≤◌, ◌<◌, min, length, get_or, drop, eqb, ltb};
+ghost use Rattle.std.specs.Prelude.{◌≡◌, ◌^◌, true, not, ◌&&◌, ℕ, ◌+◌, ◌*◌, ◌/◌, ◌≤◌, ◌<◌, length, get_or, drop, eqb, ltb};
 ghost use Rattle.rules.specs.Lists.{up_to, all_of, ascends, first_at, first_repeated};
 ghost use Rattle.rules.specs.Book as rule;
 ghost use Rattle.rules.specs.Broken.{word_bad, offset_bad, broken_at};
@@ -10,49 +10,15 @@ ghost use Rattle.rows.specs.Seen.{size_of, step_bad, Stands, Whole, Reached, Met
 ghost use Rattle.rows.specs.Answers.{rows_place};
 
 use book::{Place, behind, count, dim, held, key, place_of, word};
+use kinds::Broken;
 use repeats::first_repeated;
-
-// Where a book breaks the row rule: the key of a relation and a position in it, offsets counted before indices; with key 16 a free word's distance from the used length.
-#[derive(Clone, Copy)]
-pub struct Broken {
-    pub key: u32,
-    pub position: usize,
-}
-
-// The row rule's answer.
-#[derive(Clone, Copy)]
-pub enum Rows {
-    Right,
-    BrokenAt(Broken),
-}
-
-// The lesser of two numbers.
-fn lesser(a: usize, b: usize) -> usize
-    ensures { result ≡ min a b }
-{
-    if a < b { a } else { b }
-}
-
-// The earlier of two places.
-fn earlier(one: Place, other: Place) -> Place
-    ensures { result.0 ≡ min one.0 other.0 }
-{
-    if one.0 < other.0 { one } else { other }
-}
-
-// How far `to` lies above `from`, and 0 where it does not.
-fn above(from: u32, to: u32) -> usize
-    ensures { result ≡ to - from }
-{
-    if from < to { (to - from) as usize } else { 0 }
-}
 
 // The n words from a place on, cut at the book's end.
 fn part(book: &[u32], at: Place, n: usize) -> &[u32]
     ensures { PartOf book.entry result at.0 n }
 {
-    let start = earlier(at, Place(book.len())).0;
-    let end = start + lesser(n, book.len() - start);
+    let start = at.0.min(book.len());
+    let end = start + n.min(book.len() - start);
     &book[start..end]
 }
 
@@ -66,8 +32,19 @@ pub fn row(book: &[u32], k: u32, i: u32) -> &[u32]
     part(
         book,
         Place(at + count(book, k / 4) as usize + 1 + first as usize),
-        above(first, last),
+        last.saturating_sub(first) as usize,
     )
+}
+
+// A relation of a book: its key, and the place where it begins.
+#[derive(Clone, Copy)]
+struct Relation<'a> {
+    book: &'a [u32],
+    key: u32,
+    at: Place,
+    ghost low: { key < 16 },
+    ghost near: { at.0 < 2 ^ 40 },
+    ghost placed: { at.0 ≡ rule.place book.now key },
 }
 
 // How many entries each row of the relation of key k has to have, where it is d→0 with d > 0; else 0.
@@ -97,48 +74,11 @@ fn step_bad(before: u32, offset: u32, size: u32) -> bool
     offset - before != size
 }
 
-// The first offset of the relation of key k, which stands at `at`, that is seen to break a rule, or N_d + 1.
-fn bad_offset(book: &[u32], k: u32, at: Place) -> usize
-    requires { (k < 16) × (at.0 ≡ rule.place book.now k) }
-    ensures { result ≡ first_at (offset_bad book.now k) (up_to (rule.count book.now (k / 4) + 1)) }
-{
-    let n = count(book, k / 4) as usize;
-    let size = row_size(k);
-    let start = at.0;
-    let mut before = word(book, Place(start));
-    if before != 0 {
-        return 0;
-    }
-    let mut i: usize = 0;
-    while i < n {
-        let offset = word(book, Place(start + (i + 1)));
-        if step_bad(before, offset, size) {
-            return i + 1;
-        }
-        before = offset;
-        i += 1;
-    }
-    n + 1
-}
-
 // Whether a row ascends strictly with its indices below `bound`; of words that ascend the last is the greatest.
 fn row_ascends(row: &[u32], bound: u32) -> bool
     ensures { result ≡ (ascends row.now && all_of (λ (j : ℕ). ltb j bound) row.now) }
 {
-    if row.len() == 0 {
-        return true;
-    }
-    let mut last = row[0];
-    let mut i: usize = 1;
-    while i < row.len() {
-        let x = row[i];
-        if x <= last {
-            return false;
-        }
-        last = x;
-        i += 1;
-    }
-    last < bound
+    row.is_sorted_by(|one, next| one < next) && row.last().is_none_or(|last| *last < bound)
 }
 
 // Whether the index at place i of a row is too large, or not above its predecessor.
@@ -160,117 +100,144 @@ fn word_bad(row: &[u32], bound: u32, i: usize) -> bool
 fn bad_index(row: &[u32], bound: u32) -> usize
     ensures { result ≡ first_at (word_bad bound row.now) (up_to (length row.now)) }
 {
-    let mut i: usize = 0;
-    while i < row.len() {
-        if word_bad(row, bound, i) {
-            return i;
+    (0..row.len())
+        .find(|i| word_bad(row, bound, *i))
+        .unwrap_or(row.len())
+}
+
+impl<'a> Relation<'a> {
+    // N_d.
+    fn rows(self) -> usize
+        ensures value { result ≡ rule.count self.entry.book.now (self.entry.key / 4) }
+        ensures few { result < 2 ^ 32 }
+    {
+        count(self.book, self.key / 4) as usize
+    }
+
+    // Offset i.
+    fn offset(self, i: usize) -> u32
+        requires { i < 2 ^ 33 }
+        ensures { result ≡ rule.offset self.entry.book.now self.entry.key i }
+    {
+        word(self.book, Place(self.at.0 + i))
+    }
+
+    // The first offset that is seen to break a rule, or N_d + 1.
+    fn bad_offset(self) -> usize
+        ensures { result ≡ first_at (offset_bad self.entry.book.now self.entry.key) (up_to (rule.count self.entry.book.now (self.entry.key / 4) + 1)) }
+    {
+        let n = self.rows();
+        let size = row_size(self.key);
+        let mut before = self.offset(0);
+        if before != 0 {
+            return 0;
         }
-        i += 1;
-    }
-    i
-}
-
-// How many rows of the relation of key k, which stands at `at` and whose first offset is 0, are passed: those before the first that ends at a bad offset or has a bad index. Each offset is read, and then its row.
-fn rows_passed(book: &[u32], k: u32, at: Place) -> usize
-    requires { (k < 16) × ((at.0 ≡ rule.place book.now k) × (rule.offset book.now k 0 ≡ 0)) }
-    ensures { Reached book.now k result }
-{
-    let n = count(book, k / 4) as usize;
-    let bound = count(book, k % 4);
-    let size = row_size(k);
-    let start = at.0;
-    let from = start + n + 1;
-    let mut first: u32 = 0;
-    let mut i: usize = 0;
-    while i < n {
-        let last = word(book, Place(start + (i + 1)));
-        if step_bad(first, last, size) {
-            return i;
+        for i in 0..n {
+            let offset = self.offset(i + 1);
+            if step_bad(before, offset, size) {
+                return i + 1;
+            }
+            before = offset;
         }
-        let row = part(book, Place(from + first as usize), (last - first) as usize);
-        if !row_ascends(row, bound) {
-            return i;
+        n + 1
+    }
+
+    // How many rows are passed, where the first offset is 0: those before the first that ends at a bad offset or has a bad index. Each offset is read, and then its row.
+    fn rows_passed(self) -> usize
+        requires { rule.offset self.book.now self.key 0 ≡ 0 }
+        ensures { Reached self.entry.book.now self.entry.key result }
+    {
+        let n = self.rows();
+        let bound = count(self.book, self.key % 4);
+        let size = row_size(self.key);
+        let from = self.at.0 + n + 1;
+        let mut first: u32 = 0;
+        for i in 0..n {
+            let last = self.offset(i + 1);
+            if step_bad(first, last, size) {
+                return i;
+            }
+            let row = part(
+                self.book,
+                Place(from + first as usize),
+                (last - first) as usize,
+            );
+            if !row_ascends(row, bound) {
+                return i;
+            }
+            first = last;
         }
-        first = last;
-        i += 1;
+        n
     }
-    n
-}
 
-// The lowest position of the relation of key k, which stands at `at`, that is seen to break a rule, equal cells left out, or the relation's length: where a row is not passed, a bad offset, also a later one, comes before the row's index.
-fn rows_seen(book: &[u32], k: u32, at: Place) -> usize
-    requires { (k < 16) × (at.0 ≡ rule.place book.now k) }
-    ensures { Met book.now k result }
-{
-    if word(book, at) != 0 {
-        return 0;
+    // The lowest position that is seen to break a rule, equal cells left out, or the relation's length: where a row is not passed, a bad offset, also a later one, comes before the row's index.
+    fn rows_seen(self) -> usize
+        ensures { Met self.entry.book.now self.entry.key result }
+    {
+        if self.offset(0) != 0 {
+            return 0;
+        }
+        let n = self.rows();
+        let i = self.rows_passed();
+        let first = self.offset(i) as usize;
+        if i == n {
+            return n + 1 + first;
+        }
+        let p = self.bad_offset();
+        if p <= n {
+            return p;
+        }
+        let bad = bad_index(
+            row(self.book, self.key, i as u32),
+            count(self.book, self.key % 4),
+        );
+        n + 1 + first + bad
     }
-    let n = count(book, k / 4) as usize;
-    let i = rows_passed(book, k, at);
-    let first = word(book, Place(at.0 + i)) as usize;
-    if i == n {
-        return n + 1 + first;
-    }
-    let p = bad_offset(book, k, at);
-    if p <= n {
-        return p;
-    }
-    n + 1 + first + bad_index(row(book, k, i as u32), count(book, k % 4))
-}
 
-// The position of the first index of the lowest row of D→0 that equals an earlier one, or the relation's length. The relation of key k is D→0, stands at `at`, has n rows and no bad offset.
-fn cell_again(book: &[u32], k: u32, at: Place, n: usize) -> usize
-    requires fact_1 { Whole book.now k }
-    requires fact_2 { (k ≡ rule.key (rule.dim book.now) 0) × ((at.0 ≡ rule.place book.now k) × (n ≡ rule.count book.now (k / 4))) }
-    ensures { result ≡ n + 1 + (k / 4 + 1) * first_repeated (rule.rows_of book.now k) }
-{
-    let size = (k / 4 + 1) as usize;
-    let cells = part(book, Place(at.0 + n + 1), size * n);
-    n + 1 + size * first_repeated(cells, size, n)
-}
+    // The position of the first index of the lowest row of D→0 that equals an earlier one, or the relation's length. The relation is D→0, and has no bad offset.
+    fn cell_again(self) -> usize
+        requires whole { Whole self.book.now self.key }
+        requires cells { self.key ≡ rule.key (rule.dim self.book.now) 0 }
+        ensures { result ≡ rule.count self.entry.book.now (self.entry.key / 4) + 1 + (self.entry.key / 4 + 1) * first_repeated (rule.rows_of self.entry.book.now self.entry.key) }
+    {
+        let n = self.rows();
+        let size = (self.key / 4 + 1) as usize;
+        let cells = part(self.book, Place(self.at.0 + n + 1), size * n);
+        n + 1 + size * first_repeated(cells, size, n)
+    }
 
-// The lowest position of the relation of key k, which stands at `at`, that is seen to break a rule, or the relation's length.
-fn relation_seen(book: &[u32], k: u32, at: Place) -> usize
-    requires fact_1 { Stands book.now k }
-    requires fact_2 { at.0 ≡ rule.place book.now k }
-    ensures { SeenIn book.now k result }
-{
-    let seen = rows_seen(book, k, at);
-    if k != key(dim(book), 0) {
-        return seen;
+    // The lowest position that is seen to break a rule, or the relation's length.
+    fn seen(self) -> usize
+        requires { Stands self.book.now self.key }
+        ensures { SeenIn self.entry.book.now self.entry.key result }
+    {
+        let seen = self.rows_seen();
+        if self.key != key(dim(self.book), 0) {
+            return seen;
+        }
+        let n = self.rows();
+        if seen <= n {
+            return seen;
+        }
+        seen.min(self.cell_again())
     }
-    let n = count(book, k / 4) as usize;
-    if seen <= n {
-        return seen;
-    }
-    lesser(seen, cell_again(book, k, at, n))
 }
 
 // Whether all the words are 0: they are put together by or, and tested once.
 fn zeros(words: &[u32]) -> bool
     ensures { result ≡ all_of (eqb 0) words.now }
 {
-    let mut together: u32 = 0;
-    let mut i: usize = 0;
-    while i < words.len() {
-        together = together | words[i];
-        i += 1;
-    }
-    together == 0
+    words.iter().fold(0, |together, word| together | *word) == 0
 }
 
 // The place of the first word that is not 0, or the length.
 fn first_set(words: &[u32]) -> usize
     ensures { result ≡ first_at (λ (w : ℕ). not (eqb 0 w)) words.now }
 {
-    let mut i: usize = 0;
-    while i < words.len() {
-        if words[i] != 0 {
-            return i;
-        }
-        i += 1;
-    }
-    i
+    words
+        .iter()
+        .position(|word| *word != 0)
+        .unwrap_or(words.len())
 }
 
 // The distance of the first free word that is not 0 from the used length, or how many are free; looked at in runs of 256.
@@ -279,46 +246,44 @@ fn first_free(book: &[u32]) -> usize
     ensures { result ≡ first_at (λ (w : ℕ). not (eqb 0 w)) (drop (get_or book.now 4 0) book.now) }
 {
     let used = word(book, Place(4)) as usize;
-    let mut at = used;
-    while at < book.len() {
-        let run = part(book, Place(at), 256);
+    let free = &book[used..];
+    let mut passed = 0;
+    for run in free.chunks(256) {
         if !zeros(run) {
-            return at - used + first_set(run);
+            return passed + first_set(run);
         }
-        at += 256;
+        passed += run.len();
     }
-    book.len() - used
+    passed
 }
 
 // Where the row rule is first seen to break, if it is, in a right frame.
-pub fn broken_at(book: &[u32]) -> Rows
+pub fn broken_at(book: &[u32]) -> Option<Broken>
     requires { rule.frame_right book.now ≡ true }
     ensures { rows_place result ≡ broken_at book.now }
 {
     let mut at = Place(5);
-    let mut k: u32 = 0;
-    while k < 16 {
+    for k in 0..16 {
         let next = behind(book, k, at);
         if held(book, k) {
-            let seen = relation_seen(book, k, at);
+            let seen = Relation { book, key: k, at }.seen();
             if at.0 + seen < next.0 {
-                return Rows::BrokenAt(Broken {
+                return Some(Broken {
                     key: k,
                     position: seen,
                 });
             }
         }
         at = next;
-        k += 1;
     }
     let free = first_free(book);
     if free < book.len() - word(book, Place(4)) as usize {
-        return Rows::BrokenAt(Broken {
+        return Some(Broken {
             key: 16,
             position: free,
         });
     }
-    Rows::Right
+    None
 }
 
 // The row rule, in a right frame.
@@ -326,8 +291,5 @@ pub fn rows_right(book: &[u32]) -> bool
     requires { rule.frame_right book.now ≡ true }
     ensures { result ≡ rule.rows_right book.now }
 {
-    match broken_at(book) {
-        Rows::Right => true,
-        Rows::BrokenAt(_) => false,
-    }
+    broken_at(book).is_none()
 }

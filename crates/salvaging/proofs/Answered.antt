@@ -18,9 +18,10 @@ use Rattle.rules.proofs.Salvaged.{kept-few, saved-length}
 use Rattle.dayfile.specs.Faults.{head_number}
 use Rattle.dayfile.proofs.HeadFaults.{head_at}
 use Rattle.salvaging.specs.declared.answers.Saved.{Saved}
-use Rattle.salvaging.specs.declared.answers.Salvaged.{Salvaged}
-use Rattle.salvaging.specs.declared.answers.Salvaged.TheVariants as answers
-use Rattle.salvaging.specs.Answers.{salvaged_number, saved_given, salvaged_given}
+use Rattle.std.specs.Prelude.{Result, Ok}
+use Rattle.kinds.specs.declared.refusals.Refusal.{Refusal}
+use Rattle.kinds.specs.Refusals.{answer_number, given}
+use Rattle.salvaging.specs.Answers.{saved_given}
 
 -- ---- the number
 -- behind the head's four no number is one of them
@@ -53,8 +54,8 @@ module _ (f bytes list : List ℕ) where
 
   -- ---- what a call leaves
   -- a refusal leaves the lent places
-  pub refused : (r : Salvaged) (n : ℕ) → salvaged_number r ≡ n → salvaged_given r ≡ [] → (n ≡ 0 → ⊥) → salvage_number f bytes list ≡ n
-      → (salvaged_number r ≡ salvage_number f bytes list) × ((salvaged_given r ≡ salvage_given f bytes list) × ((bytes ≡ salvage_bytes f bytes list) × (list ≡ salvage_list f bytes list)))
+  pub refused : (r : Result Saved Refusal) (n : ℕ) → answer_number r ≡ n → given [] saved_given r ≡ [] → (n ≡ 0 → ⊥) → salvage_number f bytes list ≡ n
+      → (answer_number r ≡ salvage_number f bytes list) × ((given [] saved_given r ≡ salvage_given f bytes list) × ((bytes ≡ salvage_bytes f bytes list) × (list ≡ salvage_list f bytes list)))
   unfolding salvage_given salvage_bytes salvage_list at_front
   refused r n e g z h = rw (h, ne_eqb n 0 z) (e, (g, (refl, refl)))
 
@@ -62,8 +63,8 @@ module _ (f bytes list : List ℕ) where
   pub accepted : Headed f → saved_length f ≤ length bytes → 2 * file_cells f ≤ length list → (s : Saved) (out : List ℕ) (dropped : List ℕ)
       → saved_given s ≡ saved_length f ∷ dropped_count f ∷ cond (spare_was f) 1 0 ∷ cond (pad_was f) 1 0 ∷ cond (length_was f) 1 0 ∷ []
       → out ≡ saved f ++ drop (saved_length f) bytes → dropped ≡ dropped_pairs f ++ drop (length (dropped_pairs f)) list
-      → (salvaged_number (answers.Saved s) ≡ salvage_number f bytes list) × ((salvaged_given (answers.Saved s) ≡ salvage_given f bytes list) × ((out ≡ salvage_bytes f bytes list) × (dropped ≡ salvage_list f bytes list)))
-  unfolding salvaged_number salvaged_given salvage_given salvage_bytes salvage_list at_front saved_length
+      → (answer_number (Ok s) ≡ salvage_number f bytes list) × ((given [] saved_given (Ok s) ≡ salvage_given f bytes list) × ((out ≡ salvage_bytes f bytes list) × (dropped ≡ salvage_list f bytes list)))
+  unfolding salvage_given salvage_bytes salvage_list at_front saved_length
   accepted a l m s out dropped g o d =
       let n : salvage_number f bytes list ≡ 0 = past_head a ∙ rw (le-ltb (length bytes) (saved_length f) l, le-ltb (length list) (2 * file_cells f) m) in
       rw n (refl, (g, (o, d)))

@@ -3,3 +3,4 @@ pub mod Keeping
 pub mod Pairs
 pub mod Answered
 pub mod Alike
+mod Whys

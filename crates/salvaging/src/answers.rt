@@ -1,4 +1,4 @@
-// What salvage answers: what was saved and what was wrong, or one of its refusals.
+// What salvage gives.
 
 // What was saved of a file: the length written, how many cells were dropped, and whether spare bits were set, pad bits were set, or the length was not the one that the header asks.
 #[derive(Clone, Copy)]
@@ -8,16 +8,4 @@ pub struct Saved {
     pub spare: bool,
     pub pad: bool,
     pub wrong_length: bool,
-}
-
-// The answer.
-#[derive(Clone, Copy)]
-pub enum Salvaged {
-    Saved(Saved),
-    Short,
-    NoDimension,
-    ManyVertices,
-    ManyCells,
-    BufferTooShort,
-    ListLength,
 }

@@ -1,38 +1,12 @@
--- Words set to 0 one after another from a place on.
-use mathlib.Core.Path.{◌≡◌, refl, sym, ap, ◌∙◌}
-use mathlib.Core.Logic.{◌⊎◌, inl, inr}
+-- Words set to 0 from a place on.
+use mathlib.Core.Path.{◌≡◌, sym, ap, ◌∙◌}
 use mathlib.Core.List.{List, ◌++◌}
 use Prim.Native.Nat.{ℕ, ◌+◌, ◌-◌, ◌≤◌, ◌<◌}
-use native.Mathlib.Decide.{dec_lt, ℕ_discrete}
+use native.Mathlib.Decide.{dec_lt}
 use native.Mathlib.Omega.{arith}
-use lib.ListN.{length, get_or, take, drop, set, replicate, length-append, length-take, length-drop, length-set, length-replicate, get_or-replicate, get_or-append}
-use lib.Seq.{get_or-take, get_or-drop, get_or-append-add, length-take-le, ext_get_or, get_or-set_same, get_or-set_other}
+use lib.ListN.{length, get_or, take, drop, replicate, length-append, length-take, length-drop, length-replicate, get_or-replicate, get_or-append}
+use lib.Seq.{get_or-take, get_or-drop, get_or-append-add, length-take-le, ext_get_or}
 use Rattle.settle.specs.Settled.{Zeroed, cleared}
-
-pub zeroed-none : (ws : List ℕ) (a : ℕ) → Zeroed ws a a ws
-zeroed-none ws a = record { size = refl; zeros = λ k x y. absurd (omega arith); below = λ k x. refl; above = λ k x. refl }
-
-module _ (ws : List ℕ) (a i : ℕ) (vs : List ℕ) (t : Zeroed ws a i vs) (low : a ≤ i) where
-  pub zeroed-more : i < length vs → Zeroed ws a (i + 1) (set vs i 0)
-  zeroed-more l = record {
-    size = length-set vs i 0 ∙ t.size;
-    zeros = λ k x y. elim (ℕ_discrete k i) [
-      | yes e ↦ rw e (get_or-set_same vs i 0 0 l)
-      | no n ↦ get_or-set_other vs i k 0 0 n ∙ t.zeros k x (omega arith)
-    ];
-    below = λ k x. get_or-set_other vs i k 0 0 (λ e. omega arith) ∙ t.below k x;
-    above = λ k x. get_or-set_other vs i k 0 0 (λ e. omega arith) ∙ t.above k (omega arith);
-  }
-
-  -- the loop ends at b, or has not begun where b is before a
-  pub zeroed-all : (b : ℕ) → b ≤ i → (i ≡ a) ⊎ (i ≤ b) → Zeroed ws a b vs
-  zeroed-all b m (inl e) = record {
-    size = t.size;
-    zeros = λ k x y. absurd (omega arith);
-    below = t.below;
-    above = λ k x. elim (dec_lt k a) [ yes y ↦ t.below k y | no y ↦ t.above k (omega arith) ];
-  }
-  zeroed-all b m (inr l) = let e : i ≡ b = omega arith in rw e at t
 
 -- to the end of the words
 pub zeroed_rest : (ws : List ℕ) (a : ℕ) (vs : List ℕ) → Zeroed ws a (length ws) vs → vs ≡ cleared a ws

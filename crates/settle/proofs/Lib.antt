@@ -1,4 +1,3 @@
-pub mod Moves
 pub mod Settling
 pub mod Clearing
 pub mod Placed

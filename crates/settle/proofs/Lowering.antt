@@ -1,13 +1,11 @@
--- Words brought down one after another, and whole relations kept one after another.
+-- Words taken out, and whole relations kept one after another.
 use mathlib.Core.Path.{◌≡◌, refl, sym, ap, ◌∙◌}
 use mathlib.Core.Bool.{true, false}
-use mathlib.Core.List.{List, ◌∷◌, ◌++◌, append_assoc, append-nil}
+use mathlib.Core.List.{List, ◌++◌, append_assoc, append-nil}
 use Prim.Native.Nat.{ℕ, suc, ◌+◌, ◌-◌, ◌/◌, ◌≤◌, ◌<◌}
-use native.Mathlib.Nat.{sub_self}
-use native.Mathlib.Numerals.{add-one}
 use native.Mathlib.Omega.{arith}
-use lib.ListN.{length, get_or, take, drop, set, replicate, length-append, length-take, length-drop, length-set, take-append-drop}
-use lib.Seq.{take_at, drop_at, length-take-le, drop-drop, take-suc, get_or-drop, drop-cons, set_at, take-append-add, get_or-append-add}
+use lib.ListN.{length, get_or, take, drop, replicate, length-append, length-drop}
+use lib.Seq.{take_at, drop_at, length-take-le, drop-drop, take-append-add}
 use Rattle.rules.specs.Lists.{filled}
 use Rattle.rules.specs.Book.{named, count, total, rows_of, relation, relations, place as place_of}
 use Rattle.rules.specs.Steps.{given_back}
@@ -17,60 +15,6 @@ use Rattle.rules.proofs.Assembled.{relations-held, relations-skipped}
 use Rattle.rules.proofs.RightBook.{relation-is}
 use Rattle.settle.specs.Settled.{Zeroed, cleared, lowered, closed_up, Leaves, Kept}
 use Rattle.settle.proofs.Clearing.{zeroed-part}
-
--- ---- words brought down
--- vs is ws with the words from a up to i brought down to t, up to j
-pub record Lowering (ws : List ℕ) (a t i j : ℕ) (vs : List ℕ) : Type 0 where
-  pub low : a ≤ i
-  pub place : j ≡ t + (i - a)
-  pub size : length vs ≡ length ws
-  pub words : vs ≡ take t ws ++ (take (i - a) (drop a ws) ++ drop j ws)
-
-pub lowering-none : (ws : List ℕ) (a t : ℕ) → Lowering ws a t a t ws
-lowering-none ws a t = record {
-  low = omega arith;
-  place = omega arith;
-  size = refl;
-  words = rw (sub_self a) (sym (take-append-drop t ws));
-}
-
-module _ (ws : List ℕ) (a t i j : ℕ) (vs : List ℕ) (h : Lowering ws a t i j vs) (down : t ≤ a) (l : i < length ws) where
-  front_length : length (take t ws ++ take (i - a) (drop a ws)) ≡ j
-  front_length = simp (length-append, length-take, length-drop) (omega (arith, h.low, h.place))
-
-  -- what is still to be moved stands as it was
-  pub lowering-next : get_or vs i 0 ≡ get_or ws i 0
-  lowering-next =
-      let p = take t ws ++ take (i - a) (drop a ws) in
-      let s : length p + (i - j) ≡ i = omega (arith, front_length, h.low, h.place) in
-      let w : vs ≡ p ++ drop j ws = h.words ∙ sym (append_assoc (take t ws) (take (i - a) (drop a ws)) (drop j ws)) in
-      let g = get_or-append-add p (drop j ws) (i - j) 0 in
-      let e : j + (i - j) ≡ i = omega (arith, h.low, h.place) in
-      ap (λ (v : List ℕ). get_or v i 0) w ∙ rw s at g ∙ get_or-drop j ws (i - j) 0 ∙ ap (λ (k : ℕ). get_or ws k 0) e
-
-  pub lowering-more : Lowering ws a t (i + 1) (j + 1) (set vs j (get_or vs i 0))
-  lowering-more =
-      let p = take t ws ++ take (i - a) (drop a ws) in
-      let m : j < length ws = omega (arith, h.low, h.place) in
-      let n : i - a < length (drop a ws) = simp length-drop (omega (arith, h.low)) in
-      let c : a + (i - a) ≡ i = omega (arith, h.low) in
-      let s : i + 1 - a ≡ suc (i - a) = omega (arith, h.low) in
-      let x : get_or (drop a ws) (i - a) 0 ≡ get_or ws i 0 = get_or-drop a ws (i - a) 0 ∙ ap (λ (k : ℕ). get_or ws k 0) c in
-      let e : vs ≡ p ++ get_or ws j 0 ∷ drop (suc j) ws
-      = h.words ∙ sym (append_assoc (take t ws) (take (i - a) (drop a ws)) (drop j ws)) ∙ ap (λ (q : List ℕ). p ++ q) (drop-cons ws j 0 m) in
-      record {
-        low = omega (arith, h.low);
-        place = omega (arith, h.low, h.place);
-        size = length-set vs j (get_or vs i 0) ∙ h.size;
-        words =
-            ap (λ (y : ℕ). set vs j y) lowering-next
-            ∙ ap (λ (v : List ℕ). set v j (get_or ws i 0)) e ∙ set_at p (get_or ws j 0) (drop (suc j) ws) (get_or ws i 0) j front_length
-            ∙ rw (s, add-one j, take-suc (drop a ws) (i - a) 0 n, x) (simp append_assoc);
-      }
-
-pub lowering-all : (ws : List ℕ) (a b t i j : ℕ) (vs : List ℕ) → Lowering ws a t i j vs → i ≡ b → vs ≡ lowered a b t ws
-unfolding lowered
-lowering-all ws a b t i j vs h e = h.words ∙ rw (h.place, e)
 
 -- what stands behind a list that was put before the rest
 drop-behind : (p vs : List ℕ) (x y : ℕ) → length p ≡ x → x ≤ y → drop y (p ++ drop x vs) ≡ drop y vs

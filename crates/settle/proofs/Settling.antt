@@ -19,6 +19,25 @@ module _ (xs ys : List ℕ) (n : ℕ) (e : length xs ≡ n) (k : ℕ) where
       let a = get_or-append-add xs ys (k - n) 0 in
       rw s at a
 
+-- a part of the words set aside, and the first words of a copy put back
+pub saved-part : (ws xs : List ℕ) (p n : ℕ) → p + n ≤ length ws → Saved (take n (drop p ws)) 0 (length (take n (drop p ws))) xs → Saved ws p n xs
+saved-part ws xs p n l s =
+    record {
+      words = λ k m.
+          s.words k (rw (length-take-le n (drop p ws) (rw length-drop (omega arith))) m)
+          ∙ get_or-take n (drop p ws) (0 + k) 0 (omega arith) ∙ get_or-drop p ws (0 + k) 0 ∙ ap (λ (i : ℕ). get_or ws i 0) (omega arith);
+    }
+
+pub put-part : (ws xs vs : List ℕ) (p n : ℕ) → n ≤ length xs → PutBack ws p (take n xs) (length (take n xs)) vs → PutBack ws p xs n vs
+put-part ws xs vs p n l b =
+    let e : length (take n xs) ≡ n = length-take-le n xs l in
+    record {
+      size = b.size;
+      words = λ k m. b.words k (rw e m) ∙ get_or-take n xs k 0 m;
+      below = b.below;
+      above = λ k m. b.above k (rw e m);
+    }
+
 module _ (ws : List ℕ) (p u t : ℕ) (low : p ≤ u) (mid : u ≤ t) (high : t ≤ length ws) where
   first : length (take p ws) ≡ p
   first = length-take-le p ws (omega arith)

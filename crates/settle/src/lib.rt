@@ -12,22 +12,8 @@ fn exchange(book: &mut [u32], one: Place, other: Place, count: usize)
     requires { (one.0 + count ≤ other.0) × (other.0 + count ≤ length book.old) }
     ensures { Exchanged book.old one.0 other.0 count book.new }
 {
-    let mut done: usize = 0;
-    while done < count {
-        let i = one.0 + done;
-        let j = other.0 + done;
-        let x = book[i];
-        book[i] = book[j];
-        book[j] = x;
-        done += 1;
-    }
-}
-
-// The lesser of two numbers.
-fn lesser(a: usize, b: usize) -> usize
-    ensures { result ≡ min a b }
-{
-    if a < b { a } else { b }
+    let (front, back) = book.split_at_mut(other.0);
+    front[one.0..one.0 + count].swap_with_slice(&mut back[..count]);
 }
 
 // Brings the words from `from` up to `end` down to `to`, and gives the place after them.
@@ -36,15 +22,8 @@ fn move_down(book: &mut [u32], from: Place, end: Place, to: Place) -> Place
     ensures place { result.0 ≡ to.0 + (end.0 - from.0) }
     ensures words { book.new ≡ lowered from.0 end.0 to.0 book.old }
 {
-    let last = end.0;
-    let mut i = from.0;
-    let mut j = to.0;
-    while i < last {
-        book[j] = book[i];
-        i += 1;
-        j += 1;
-    }
-    Place(j)
+    book.copy_within(from.0..end.0, to.0);
+    Place(to.0 + (end.0 - from.0))
 }
 
 // Moves the words from `from` up to `end` up by as many places as `by` says.
@@ -52,41 +31,25 @@ fn move_up(book: &mut [u32], from: Place, end: Place, by: usize)
     requires { (from.0 ≤ end.0) × (end.0 + by ≤ length book.old) }
     ensures { Raised book.old from.0 end.0 by book.new }
 {
-    let first = from.0;
-    let mut i = end.0;
-    while first < i {
-        i -= 1;
-        let j = i + by;
-        book[j] = book[i];
-    }
+    book.copy_within(from.0..end.0, from.0 + by);
 }
 
-// A copy of at most 64 words from a place on.
-fn saved(book: &[u32], from: Place, count: usize) -> [u32; 64]
-    requires { (from.0 + count ≤ length book.now) × (count ≤ 64) }
-    ensures { Saved book.now from.0 count result }
+// A copy of at most 64 words.
+fn saved(words: &[u32]) -> [u32; 64]
+    requires { length words.now ≤ 64 }
+    ensures { Saved words.now 0 (length words.now) result }
 {
-    let mut words = [0u32; 64];
-    let mut done: usize = 0;
-    while done < count {
-        let i = from.0 + done;
-        words[done] = book[i];
-        done += 1;
-    }
-    words
+    let mut copy = [0u32; 64];
+    copy[..words.len()].copy_from_slice(words);
+    copy
 }
 
-// Writes the first words of a copy from a place on.
-fn put_back(book: &mut [u32], at: Place, words: [u32; 64], count: usize)
-    requires { (at.0 + count ≤ length book.old) × (count ≤ 64) }
-    ensures { PutBack book.old at.0 words count book.new }
+// Writes the words from a place on.
+fn put_back(book: &mut [u32], at: Place, words: &[u32])
+    requires { at.0 + length words.now ≤ length book.old }
+    ensures { PutBack book.old at.0 words.now (length words.now) book.new }
 {
-    let mut done: usize = 0;
-    while done < count {
-        let i = at.0 + done;
-        book[i] = words[done];
-        done += 1;
-    }
+    book[at.0..at.0 + words.len()].copy_from_slice(words);
 }
 
 // Settles where one of the two parts has at most 64 words: it is set aside, the other is moved past it, and it is put back.
@@ -97,17 +60,17 @@ fn settle_few(book: &mut [u32], at: Place, used: Place, end: Place)
     let before = used.0 - at.0;
     let behind = end.0 - used.0;
     if before <= 64 {
-        let words = saved(book, at, before);
+        let words = saved(&book[at.0..used.0]);
         let to = move_down(book, used, end, at);
-        put_back(book, to, words, before);
+        put_back(book, to, &words[..before]);
     } else {
-        let words = saved(book, used, behind);
+        let words = saved(&book[used.0..end.0]);
         move_up(book, at, used, behind);
-        put_back(book, at, words, behind);
+        put_back(book, at, &words[..behind]);
     }
 }
 
-// Brings the words from `used` up to `end` before those from `at` up to `used`.
+// Brings the words from `used` up to `end` before those from `at` up to `used`. Blocks are exchanged and a short part is set aside: `rotate_left` took 1.25 times as long for 20,000 words past 29,990.
 pub fn settle(book: &mut [u32], at: Place, used: Place, end: Place)
     requires { Within at.0 used.0 (length book.old) × Within used.0 end.0 (length book.old) }
     ensures { book.new ≡ settled at.0 used.0 end.0 book.old }
@@ -115,8 +78,8 @@ pub fn settle(book: &mut [u32], at: Place, used: Place, end: Place)
     let last = end.0;
     let mut front = at.0;
     let mut middle = used.0;
-    while 64 < lesser(middle - front, last - middle) {
-        let block = lesser(middle - front, last - middle);
+    while (middle - front).min(last - middle) > 64 {
+        let block = (middle - front).min(last - middle);
         exchange(book, Place(front), Place(middle), block);
         front += block;
         if front == middle {
@@ -131,11 +94,8 @@ fn zero(book: &mut [u32], from: Place, end: Place)
     requires { end.0 ≤ length book.old }
     ensures { Zeroed book.old from.0 end.0 book.new }
 {
-    let last = end.0;
-    let mut at = from.0;
-    while at < last {
-        book[at] = 0;
-        at += 1;
+    if from.0 < end.0 {
+        book[from.0..end.0].fill(0);
     }
 }
 
@@ -178,12 +138,10 @@ fn keep_only(book: &mut [u32], mask: u32) -> Place
     let places = book::places_of(book);
     let at = places.at;
     let mut to = Place(5);
-    let mut k: usize = 0;
-    while k < 16 {
+    for k in 0..16 {
         if book::named(mask, k as u32) {
             to = move_down(book, at[k], at[k + 1], to);
         }
-        k += 1;
     }
     to
 }

@@ -122,23 +122,47 @@ module _ (ws xs bs vs es : List ℕ) where
     unfolding sheet_number
     number_is = ap (λ (l : List ℕ). get_or l 0 0) (sym h)
 
-    -- a refusal gives nothing and leaves every list as it was
-    pub refused : eqb n 0 ≡ false
-        → ([] ≡ sheet_given ws (length xs) (length bs) (length vs) (length es))
-        × ((xs ≡ sheet_across ws xs bs vs es) × ((bs ≡ sheet_bytes ws xs bs vs es) × ((vs ≡ sheet_vertices ws xs bs vs es) × (es ≡ sheet_edges ws xs bs vs es))))
-    unfolding sheet_given sheet_for sheet_across sheet_bytes sheet_vertices sheet_edges at_front
-    refused z = rw (number_is, z) (refl, (refl, (refl, (refl, refl))))
-
     -- with any number but 11 no place comes
     pub no_place : eqb n 11 ≡ false → none ≡ told number (broken_at ws)
     unfolding told
     no_place z = rw (number_is, z)
 
+    -- a refusal gives nothing and leaves every list as it was
+    pub left_alone : eqb n 0 ≡ false
+        → record {
+          given : [] ≡ sheet_given ws (length xs) (length bs) (length vs) (length es);
+          across : xs ≡ sheet_across ws xs bs vs es;
+          bytes : bs ≡ sheet_bytes ws xs bs vs es;
+          vertices : vs ≡ sheet_vertices ws xs bs vs es;
+          edges : es ≡ sheet_edges ws xs bs vs es;
+        }
+    unfolding sheet_given sheet_for sheet_across sheet_bytes sheet_vertices sheet_edges at_front
+    left_alone z = rw (number_is, z) (record { given = refl; across = refl; bytes = refl; vertices = refl; edges = refl })
+
+    -- all that the contract says of a refusal that tells no place
+    pub refused : eqb n 0 ≡ false → eqb n 11 ≡ false
+        → record {
+          answer : n ∷ more ≡ answer;
+          place : none ≡ told number (broken_at ws);
+          given : [] ≡ sheet_given ws (length xs) (length bs) (length vs) (length es);
+          across : xs ≡ sheet_across ws xs bs vs es;
+          bytes : bs ≡ sheet_bytes ws xs bs vs es;
+          vertices : vs ≡ sheet_vertices ws xs bs vs es;
+          edges : es ≡ sheet_edges ws xs bs vs es;
+        }
+    refused z w =
+        let l = left_alone z in
+        record { answer = h; place = no_place w; given = l.given; across = l.across; bytes = l.bytes; vertices = l.vertices; edges = l.edges }
+
   -- what an accepted call gives, and what the lists hold then
   pub given : 0 ∷ [] ≡ answer → length xs ≡ length (across ws)
-      → ((rim_length_of ws ∷ length (rim_vertices_of ws) ∷ length (rim_edges_of ws) ∷ []) ≡ sheet_given ws (length xs) (length bs) (length vs) (length es))
-      × ((across ws ≡ sheet_across ws xs bs vs es)
-      × ((rim_file ws ++ drop (rim_length_of ws) bs ≡ sheet_bytes ws xs bs vs es)
-      × ((rim_vertices_of ws ++ drop (length (rim_vertices_of ws)) vs ≡ sheet_vertices ws xs bs vs es) × (rim_edges_of ws ++ drop (length (rim_edges_of ws)) es ≡ sheet_edges ws xs bs vs es))))
+      → record {
+        given : (rim_length_of ws ∷ length (rim_vertices_of ws) ∷ length (rim_edges_of ws) ∷ []) ≡ sheet_given ws (length xs) (length bs) (length vs) (length es);
+        across : across ws ≡ sheet_across ws xs bs vs es;
+        bytes : rim_file ws ++ drop (rim_length_of ws) bs ≡ sheet_bytes ws xs bs vs es;
+        vertices : rim_vertices_of ws ++ drop (length (rim_vertices_of ws)) vs ≡ sheet_vertices ws xs bs vs es;
+        edges : rim_edges_of ws ++ drop (length (rim_edges_of ws)) es ≡ sheet_edges ws xs bs vs es;
+      }
   unfolding sheet_given sheet_for sheet_across sheet_bytes sheet_vertices sheet_edges at_front rim_length_of
-  given h l = rw (number_is 0 [] h) (refl, (sym (rw (← l, drop-length xs) (append-nil (across ws))), (refl, (refl, refl))))
+  given h l =
+      rw (number_is 0 [] h) (record { given = refl; across = sym (rw (← l, drop-length xs) (append-nil (across ws))); bytes = refl; vertices = refl; edges = refl })

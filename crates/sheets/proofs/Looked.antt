@@ -1,92 +1,65 @@
 -- Edges and cells by what is read of them: an edge of one or two cells by its first and last, a cell by its three edges.
-use mathlib.Core.Path.{◌≡◌, refl, sym, ap, ◌∙◌}
-use mathlib.Core.Logic.{◌⊎◌, inl, inr}
-use mathlib.Core.Bool.{Bool, true, false, not, ◌&&◌, or-false, and-true}
+use mathlib.Core.Path.{◌≡◌, refl, ap, ◌∙◌}
+use mathlib.Core.Bool.{Bool, true, false, not, ◌&&◌}
 use mathlib.Core.List.{List, [], ◌∷◌}
-use Prim.Native.Nat.{ℕ, ◌-◌, ◌/◌, ◌≤◌, ◌<◌}
+use Prim.Native.Nat.{ℕ, zero, suc, ◌≤◌, ◌<◌}
 use native.Mathlib.Omega.{arith}
 use lib.ListN.{length, get_or}
 use lib.Dec.{eqb}
 use borrow.Author.Tests.{eq-eqb, ne_eqb, lt-ltb, le-ltb}
 use Rattle.rules.specs.Lists.{up_to, any_of, all_of, keep, first_at, has}
-use Rattle.rules.specs.Book.{count, key, row_of}
+use Rattle.rules.specs.Book.{count, key}
 use Rattle.rules.specs.Calls.{Rule, first_broken}
-use Rattle.rules.specs.Sheet.{edges_of, cells_at, unmatched, not_sheet}
-use Rattle.rules.proofs.Tests.{eqb_comm, get_or-in, has_of}
-use Rattle.rules.proofs.Numbered.{length-up_to, three-members}
+use Rattle.rules.specs.Sheet.{edges_of, cells_at, unmatched, not_sheet, Flat}
+use Rattle.std.specs.List.{list_any, list_all}
+use Rattle.rules.proofs.Tests.{eqb_comm}
+use Rattle.rules.proofs.FrameRule.{framed}
+use Rattle.rules.proofs.RowRule.{row-length, index_below}
+use Rattle.rules.proofs.Numbered.{length-up_to}
 use Rattle.rules.proofs.Searched.{any-first}
-use Rattle.sheets.specs.declared.stands.Stand.{Stand}
 
--- ---- the rows of a relation, by its key
--- an entity that the relation has a row for
-pub in-range : (ws : List ℕ) (at : Stand) (q i : ℕ) → at.key ≡ q → i < count ws (q / 4) → i < count ws (at.key / 4)
-in-range ws at q i e l = rw e l
-
-pub cells-row : (ws : List ℕ) (at : Stand) (k : ℕ) → at.key ≡ 6 → row_of ws at.key k ≡ cells_at ws k
-unfolding cells_at key
-cells-row ws at k e = ap (λ (q : ℕ). row_of ws q k) e
-
-pub edges-row : (ws : List ℕ) (at : Stand) (c : ℕ) → at.key ≡ 9 → row_of ws at.key c ≡ edges_of ws c
-unfolding edges_of key
-edges-row ws at c e = ap (λ (q : ℕ). row_of ws q c) e
-
--- ---- an edge of one or two cells
-pub some-cell : (xs : List ℕ) → (length xs ≡ 1) ⊎ (length xs ≡ 2) → 0 < length xs
-some-cell xs (inl e) = omega arith
-some-cell xs (inr e) = omega arith
-
-at_most : (xs : List ℕ) → (length xs ≡ 1) ⊎ (length xs ≡ 2) → length xs < 3
-at_most xs (inl e) = omega arith
-at_most xs (inr e) = omega arith
-
-pub has_first : (xs : List ℕ) (c : ℕ) → (length xs ≡ 1) ⊎ (length xs ≡ 2) → get_or xs 0 0 ≡ c → true ≡ has c xs
-has_first xs c s e = sym (rw (← e) (has_of (get_or-in xs 0 0 (some-cell xs s))))
-
-pub has_last : (xs : List ℕ) (c : ℕ) → (length xs ≡ 1) ⊎ (length xs ≡ 2) → (get_or xs 0 0 ≡ c → ⊥) → eqb (get_or xs (length xs - 1) 0) c ≡ has c xs
+-- ---- an edge's cells
+pub any-has : (xs : List ℕ) (c : ℕ) → list_any (λ j. eqb j c) xs ≡ has c xs
 unfolding has any_of
-has_last [] c s n = absurd (omega (arith, some-cell [] s))
-has_last (x ∷ []) c s n = rw (ne_eqb x c n, ne_eqb c x (λ e. n (sym e)))
-has_last (x ∷ y ∷ []) c s n = rw (ne_eqb c x (λ e. n (sym e)), or-false (eqb c y)) (eqb_comm y c)
-has_last (x ∷ y ∷ z ∷ xs) c s n = absurd (omega (arith, at_most (x ∷ y ∷ z ∷ xs) s))
+any-has [] c = refl
+any-has (x ∷ xs) c = rw (eqb_comm x c, any-has xs c)
 
--- the other of one or two
-pub across-first : (xs : List ℕ) (c : ℕ) → (length xs ≡ 1) ⊎ (length xs ≡ 2) → (get_or xs 0 0 ≡ c → ⊥) → get_or xs 0 0 ≡ get_or (keep (λ j. not (eqb j c)) xs) 0 65535
+-- the first that is another, and none where all are the same
+pub first-other : (xs : List ℕ) (c i : ℕ) → i < length xs → ((j : ℕ) → j < i → get_or xs j 0 ≡ c) → (get_or xs i 0 ≡ c → ⊥) → get_or xs i 0 ≡ get_or (keep (λ j. not (eqb j c)) xs) 0 65535
 unfolding keep
-across-first [] c s n = absurd (omega (arith, some-cell [] s))
-across-first (x ∷ xs) c s n = rw (ne_eqb x c n)
+first-other [] c i l b n = absurd (omega arith)
+first-other (x ∷ xs) c zero l b n = rw (ne_eqb x c n)
+first-other (x ∷ xs) c (suc i) l b n = rw (eq-eqb x c (b 0 (omega arith))) (first-other xs c i (omega arith) (λ j m. b (suc j) (omega arith)) n)
 
-pub across-last : (xs : List ℕ) (c : ℕ) → (length xs ≡ 1) ⊎ (length xs ≡ 2) → get_or xs 0 0 ≡ c → (get_or xs (length xs - 1) 0 ≡ c → ⊥) → get_or xs (length xs - 1) 0 ≡ get_or (keep (λ j. not (eqb j c)) xs) 0 65535
+pub none-other : (xs : List ℕ) (c : ℕ) → ((j : ℕ) → j < length xs → get_or xs j 0 ≡ c) → 65535 ≡ get_or (keep (λ j. not (eqb j c)) xs) 0 65535
 unfolding keep
-across-last [] c s e n = absurd (omega (arith, some-cell [] s))
-across-last (x ∷ []) c s e n = absurd (n e)
-across-last (x ∷ y ∷ []) c s e n = rw (eq-eqb x c e, ne_eqb y c n)
-across-last (x ∷ y ∷ z ∷ xs) c s e n = absurd (omega (arith, at_most (x ∷ y ∷ z ∷ xs) s))
-
-pub across-none : (xs : List ℕ) (c : ℕ) → (length xs ≡ 1) ⊎ (length xs ≡ 2) → get_or xs 0 0 ≡ c → get_or xs (length xs - 1) 0 ≡ c → 65535 ≡ get_or (keep (λ j. not (eqb j c)) xs) 0 65535
-unfolding keep
-across-none [] c s e n = refl
-across-none (x ∷ []) c s e n = rw (eq-eqb x c e)
-across-none (x ∷ y ∷ []) c s e n = rw (eq-eqb x c e, eq-eqb y c n)
-across-none (x ∷ y ∷ z ∷ xs) c s e n = absurd (omega (arith, at_most (x ∷ y ∷ z ∷ xs) s))
+none-other [] c b = refl
+none-other (x ∷ xs) c b = rw (eq-eqb x c (b 0 (omega arith))) (none-other xs c (λ j m. b (suc j) (omega arith)))
 
 -- ---- a cell and its three edges
 pub too_few : (ws : List ℕ) (c : ℕ) → (length (edges_of ws c) ≡ 3 → ⊥) → false ≡ not (unmatched ws c)
 unfolding unmatched
 too_few ws c n = rw (ne_eqb (length (edges_of ws c)) 3 n)
 
-pub matched-is : (ws : List ℕ) (c : ℕ) → length (edges_of ws c) ≡ 3
-    → (has c (cells_at ws (get_or (edges_of ws c) 0 0)) && (has c (cells_at ws (get_or (edges_of ws c) 1 0)) && has c (cells_at ws (get_or (edges_of ws c) 2 0)))) ≡ not (unmatched ws c)
+all-is : (p : ℕ → Bool) (xs : List ℕ) → list_all p xs ≡ all_of p xs
+unfolding all_of
+all-is p [] = refl
+all-is p (x ∷ xs) = ap (λ (b : Bool). p x && b) (all-is p xs)
+
+pub matched-is : (ws : List ℕ) (c : ℕ) → length (edges_of ws c) ≡ 3 → list_all (λ k. has c (cells_at ws k)) (edges_of ws c) ≡ not (unmatched ws c)
 unfolding unmatched
-matched-is ws c e =
-    let p : ℕ → Bool = λ k. has c (cells_at ws k) in
-    let xs = edges_of ws c in
-    let a : all_of p xs ≡ (p (get_or xs 0 0) && (p (get_or xs 1 0) && p (get_or xs 2 0)))
-    = ap (all_of p) (three-members xs e) ∙ unfold all_of in ap (λ (b : Bool). p (get_or xs 0 0) && (p (get_or xs 1 0) && b)) (and-true (p (get_or xs 2 0))) in
-    rw (eq-eqb (length xs) 3 e, a) (sym (back (p (get_or xs 0 0) && (p (get_or xs 1 0) && p (get_or xs 2 0)))))
+matched-is ws c e = rw (eq-eqb (length (edges_of ws c)) 3 e) (all-is (λ k. has c (cells_at ws k)) (edges_of ws c) ∙ back (all_of (λ k. has c (cells_at ws k)) (edges_of ws c)))
   where
-    back : (b : Bool) → not (not b) ≡ b
+    back : (b : Bool) → b ≡ not (not b)
     back true = refl
     back false = refl
+
+-- an edge of a cell is one
+pub edge-low : (ws : List ℕ) → Flat ws → (c : ℕ) → c < count ws 2 → (t : ℕ) → t < length (edges_of ws c) → get_or (edges_of ws c) t 0 < count ws 1
+unfolding edges_of key
+edge-low ws f c l t b =
+    let g = framed ws f.frame in
+    index_below ws g f.rows 9 f.edges c t l (omega (arith, row-length ws g f.rows 9 f.edges c l))
 
 -- ---- the lowest of the entities that do not pass
 -- there is one

@@ -1,9 +1,10 @@
-// A relation among the words of a right book: where it stands, and its rows by their indices.
-ghost use Rattle.std.specs.Prelude.{◌≡◌, true, ◌/◌, ◌<◌, length, get_or};
-ghost use Rattle.rules.specs.Book.{count, held, row_of, frame_right, rows_right};
+// A relation among the words of a right book: where it stands, and its rows.
+ghost use Rattle.std.specs.Prelude.{◌≡◌, true, ◌/◌, ◌<◌};
+ghost use Rattle.rules.specs.Book.{count, held, row_of};
 ghost use Rattle.sheets.specs.Stands.{Stands};
 
 use book::Place;
+use right::RightBook;
 
 // The relation of a key: where its offsets begin, and where its indices do.
 #[derive(Clone, Copy)]
@@ -14,37 +15,27 @@ pub struct Stand {
 }
 
 // Where the relation of key k, which is held, stands.
-pub fn stand_of(book: &[u32], k: u32) -> Stand
-    requires fact_1 { (frame_right book.now ≡ true) × (rows_right book.now ≡ true) }
-    requires fact_2 { held book.now k ≡ true }
+pub fn stand_of(book: &RightBook<'_>, k: u32) -> Stand
+    requires { held book.now k ≡ true }
     ensures key { result.key ≡ k }
     ensures stands { Stands book.now result }
 {
-    let at = book::place_of(book, k);
+    let at = book::place_of(book.words(), k);
     Stand {
         key: k,
         offsets: at,
-        indices: Place(at.0 + book::count(book, k / 4) as usize + 1),
+        indices: Place(at.0 + book.count(k / 4) as usize + 1),
     }
 }
 
-// How many indices row i has.
-pub fn row_length(book: &[u32], at: Stand, i: u32) -> u32
-    requires fact_1 { Stands book.now at }
-    requires fact_2 { i < count book.now (at.key / 4) }
-    ensures { result ≡ length (row_of book.now at.key i) }
+// Row i, by its indices.
+pub fn row(book: &[u32], at: Stand, i: u32) -> &[u32]
+    requires stands { Stands book.now at }
+    requires below { i < count book.now (at.key / 4) }
+    ensures { result.now ≡ row_of book.now at.key i }
 {
-    let first = at.offsets.0 + i as usize;
-    book[first + 1] - book[first]
-}
-
-// Index t of row i.
-pub fn index(book: &[u32], at: Stand, i: u32, t: u32) -> u32
-    requires fact_1 { Stands book.now at }
-    requires fact_2 { i < count book.now (at.key / 4) }
-    requires fact_3 { t < length (row_of book.now at.key i) }
-    ensures { result ≡ get_or (row_of book.now at.key i) t 0 }
-{
-    let first = book[at.offsets.0 + i as usize] as usize;
-    book[at.indices.0 + first + t as usize]
+    let offset = at.offsets.0 + i as usize;
+    let first = at.indices.0 + book[offset] as usize;
+    let end = at.indices.0 + book[offset + 1] as usize;
+    &book[first..end]
 }

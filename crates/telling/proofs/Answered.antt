@@ -1,18 +1,25 @@
 -- What is written for a file and what is known then, where it is refused and where it is accepted.
-use mathlib.Core.Path.{◌≡◌, refl, sym, ◌∙◌}
+use mathlib.Core.Path.{◌≡◌, refl, sym, ap, ◌∙◌}
 use mathlib.Core.Bool.{Bool, true, false, cond}
-use mathlib.Core.List.{List}
+use mathlib.Core.List.{List, [], ◌∷◌}
 use Prim.Native.Nat.{ℕ, ◌-◌, ◌*◌, ◌≤◌}
 use native.Mathlib.Omega.{arith}
-use lib.ListN.{length}
+use lib.ListN.{length, get_or}
 use lib.Dec.{eqb}
 use lib.Seq.{take_all}
-use borrow.Author.Tests.{eq-eqb, ne_eqb, eqb-true}
+use borrow.Author.Tests.{ne_eqb, eqb-true}
+use Rattle.std.specs.Prelude.{Result, Ok, Err}
+use Rattle.rules.specs.Lists.{all_of}
 use Rattle.rules.specs.File.{file_cells}
 use Rattle.rules.specs.Calls.{at_front}
-use Rattle.rules.specs.Salvage.{kept, dropped_count, saved, saved_length, spare_was, pad_was, length_was, salvage_number, salvage_bytes}
+use Rattle.rules.specs.Salvage.{kept, dropped_count, saved, saved_length, spare_was, pad_was, length_was, salvage_rules, salvage_number, salvage_given, salvage_bytes}
 use Rattle.rules.proofs.Accepted.{Salvages, salvages}
 use Rattle.rules.proofs.Salvaged.{saved-short, all-accounted}
+use Rattle.kinds.specs.declared.refusals.Refusal.{Refusal}
+use Rattle.kinds.specs.Refusals.{refusal_number, answer_number}
+use Rattle.kinds.proofs.Determined.{refused-accepted, bare, silent, silent-alike, number-has}
+use Rattle.salvaging.specs.Answers.{saved_given}
+use Rattle.salvaging.specs.declared.answers.Saved.{Saved}
 use Rattle.report.specs.Lines.{refused_line}
 use Rattle.report.specs.Printed.{Printed}
 use Rattle.report.proofs.Putting.{printed-wide}
@@ -20,60 +27,75 @@ use Rattle.telling.specs.Program.{answered, outcome_of}
 use Rattle.telling.specs.declared.Outcome.{Outcome}
 
 -- a truth value told as 1 or 0 is told back
-flag-back : {n : ℕ} {b : Bool} → n ≡ cond b 1 0 → eqb n 1 ≡ b
-flag-back {b = true} e = rw e
-flag-back {b = false} e = rw e
+flag-back : {b d : Bool} → ◌≡◌ {A = ℕ} (cond b 1 0) (cond d 1 0) → b ≡ d
+flag-back {b = true} {d = true} e = refl
+flag-back {b = true} {d = false} e = absurd (omega (arith, e))
+flag-back {b = false} {d = true} e = absurd (omega (arith, e))
+flag-back {b = false} {d = false} e = refl
 
-module _ (f bs ls : List ℕ) {m : ℕ} (e : m ≡ salvage_number f bs ls) where
+module _ (f bs ls : List ℕ) where
   -- ---- refused
-  module _ (h : m ≡ 0 → ⊥) where
+  module _ (r : Refusal) (e : refusal_number r ≡ salvage_number f bs ls) where
     -- what is known
-    pub refused-outcome : {r k : ℕ} → r ≡ length (refused_line m) → k ≡ file_cells f
-        → ◌≡◌ {A = Outcome} (record { number = m; length = r; cells = k; kept = 0; dropped = 0; spare = false; pad = false; wrong_length = false }) (outcome_of f bs ls)
+    pub refused-outcome : {l k : ℕ} → l ≡ length (refused_line (refusal_number r)) → k ≡ file_cells f → (record { number = refusal_number r; length = l; cells = k; kept = 0; dropped = 0; spare = false; pad = false; wrong_length = false }) ≡ outcome_of f bs ls
     unfolding outcome_of answered
-    refused-outcome a b = rw (← e, ne_eqb m 0 h, a, b)
+    refused-outcome a b = rw (← e, ne_eqb (refusal_number r) 0 (refused-accepted r), a, b)
 
     -- what is written, over bytes that the call left as they were
-    pub refused-text : {r : ℕ} {cs : List ℕ} → Printed 19 (refused_line m) (salvage_bytes f bs ls) r cs → Printed 26628 (answered f bs ls) bs r cs
+    pub refused-text : {l : ℕ} {cs : List ℕ} → Printed 19 (refused_line (refusal_number r)) (salvage_bytes f bs ls) l cs → Printed 26628 (answered f bs ls) bs l cs
     unfolding answered salvage_bytes at_front
-    refused-text p = rw (← e, ne_eqb m 0 h) (printed-wide 26628 (omega arith) (rw (← e, ne_eqb m 0 h) at p))
+    refused-text p =
+        let h = refused-accepted r in
+        rw (← e, ne_eqb (refusal_number r) 0 h) (printed-wide 26628 (omega arith) (rw (← e, ne_eqb (refusal_number r) 0 h) at p))
 
   -- ---- accepted
-  module _ (z : m ≡ 0) where
+  module _ (s : Saved) (z : 0 ≡ salvage_number f bs ls) (g : saved_given s ≡ salvage_given f bs ls) where
     -- what it has passed
     fine : Salvages f bs ls
-    fine = salvages f bs ls (sym e ∙ z)
+    fine = salvages f bs ls (sym z)
 
-    -- what the call gives with an accepted number
-    pub given : {x new : ℕ} (old : ℕ) → x ≡ cond (eqb m 0) new old → x ≡ new
-    given old g = rw (eq-eqb m 0 z) at g
+    -- what the call gives
+    told : saved_given s ≡ saved_length f ∷ dropped_count f ∷ cond (spare_was f) 1 0 ∷ cond (pad_was f) 1 0 ∷ cond (length_was f) 1 0 ∷ []
+    unfolding salvage_given
+    told = g ∙ rw (← z) refl
+
+    place : (i : ℕ) → get_or (saved_given s) i 0 ≡ get_or (saved_length f ∷ dropped_count f ∷ cond (spare_was f) 1 0 ∷ cond (pad_was f) 1 0 ∷ cond (length_was f) 1 0 ∷ []) i 0
+    place i = ap (λ (l : List ℕ). get_or l i 0) told
+
+    long : s.length ≡ saved_length f
+    unfolding saved_given
+    long = place 0
+
+    lost : s.dropped ≡ dropped_count f
+    unfolding saved_given
+    lost = place 1
 
     -- the cells dropped are no more than there are
-    pub count-few : {n : ℕ} → n ≡ dropped_count f → n ≤ file_cells f
-    count-few c = omega (arith, all-accounted f)
+    pub count-few : s.dropped ≤ file_cells f
+    count-few = omega (arith, lost, all-accounted f)
 
-    pub count_low : {n : ℕ} → n ≡ dropped_count f → n ≤ 4096
-    count_low c = omega (arith, count-few c, fine.head.cells)
+    pub count_low : s.dropped ≤ 4096
+    count_low = omega (arith, count-few, fine.head.cells)
 
     -- no file is longer than the lent bytes of the program
-    pub length-few : {n : ℕ} → n ≡ saved_length f → n ≤ 26628
-    length-few l = omega (arith, saved-short f fine.head)
+    pub length-few : s.length ≤ 26628
+    length-few = omega (arith, long, saved-short f fine.head)
 
     -- what is known
-    pub accepted-outcome : {l n k s p w : ℕ} → l ≡ saved_length f → n ≡ dropped_count f → k ≡ file_cells f
-        → s ≡ cond (spare_was f) 1 0 → p ≡ cond (pad_was f) 1 0 → w ≡ cond (length_was f) 1 0
-        → ◌≡◌ {A = Outcome} (record { number = m; length = l; cells = k; kept = k - n; dropped = n; spare = eqb s 1; pad = eqb p 1; wrong_length = eqb w 1 }) (outcome_of f bs ls)
-    unfolding outcome_of answered saved_length
-    accepted-outcome {n = n} {k = k} l c a s p w =
-        let d : k - n ≡ length (kept f) = omega (arith, all-accounted f) in
-        rw (← e, eq-eqb m 0 z, l, d, c, a, flag-back {b = spare_was f} s, flag-back {b = pad_was f} p, flag-back {b = length_was f} w)
+    pub accepted-outcome : {k : ℕ} → k ≡ file_cells f
+        → (record { number = 0; length = s.length; cells = k; kept = k - s.dropped; dropped = s.dropped; spare = s.spare; pad = s.pad; wrong_length = s.wrong_length }) ≡ outcome_of f bs ls
+    unfolding outcome_of answered saved_length saved_given
+    accepted-outcome {k} a =
+        let d : k - s.dropped ≡ length (kept f) = omega (arith, lost, a, all-accounted f) in
+        let e : s.spare ≡ spare_was f = flag-back (place 2) in
+        let h : s.pad ≡ pad_was f = flag-back (place 3) in
+        let w : s.wrong_length ≡ length_was f = flag-back (place 4) in
+        rw (← z, long, d, lost, a, e, h, w)
 
     -- what is written
-    pub accepted-text : {r : ℕ} {cs : List ℕ} → r ≡ saved_length f → cs ≡ salvage_bytes f bs ls → Printed 26628 (answered f bs ls) bs r cs
+    pub accepted-text : {cs : List ℕ} → cs ≡ salvage_bytes f bs ls → Printed 26628 (answered f bs ls) bs s.length cs
     unfolding answered salvage_bytes at_front saved_length
-    accepted-text l c =
-        rw (← e, eq-eqb m 0 z)
-        (record { size = l; short = length-few l; bytes = (rw (← e, eq-eqb m 0 z) at c) ∙ rw (l, take_all (length bs) (saved f) fine.room) })
+    accepted-text c = rw (← z) (record { size = long; short = length-few; bytes = (rw (← z) at c) ∙ rw (long, take_all (length bs) (saved f) fine.room) refl })
 
 -- the list has room for the pairs of the cells dropped
 pub pairs-fit : (f bs ls : List ℕ) {o : Outcome} → o ≡ outcome_of f bs ls → 2 * o.dropped ≤ length ls

@@ -3,7 +3,7 @@ use mathlib.Core.Path.{◌≡◌, refl}
 use mathlib.Core.Bool.{true, false}
 use mathlib.Core.List.{[], ◌∷◌}
 use Rattle.report.specs.Lines.{digits_in, digits}
-use Rattle.telling.specs.Words.{bytes_of, reason, cells_named, run_line, spare_line, pad_line, length_line, kept_line, meaning, refusal_line}
+use Rattle.telling.specs.Words.{bytes_of, reason, cells_named, run_line, length_line, kept_line, meaning, refusal_line}
 use Rattle.telling.specs.Runs.{goes_on, run_size, run_text}
 use Rattle.telling.specs.Program.{only_if, last_words}
 

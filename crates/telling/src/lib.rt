@@ -10,12 +10,13 @@ ghost use Rattle.rules.specs.Salvage.{salvage_list};
 ghost use Rattle.report.specs.Printed.{Printed};
 ghost use Rattle.telling.specs.Program.{answered, outcome_of};
 
-use daybook_c::daybook_salvage;
+use daybook::salvage;
 pub use ends::last_words;
 use report::refused;
 pub use runs::{Run, tell_run};
 
 // What is known of a file once it is answered: the refusal's number, or 0; the length of what is written; the cells by the header, and how many of them were kept and dropped; whether spare bits were set, pad bits were set, or the length was not the one that the header asks.
+// No `Result`: `last_words` tells of any number, which a `Refusal` would not hold.
 #[derive(Clone, Copy)]
 pub struct Outcome {
     pub number: u32,
@@ -34,42 +35,33 @@ pub fn answer(file: &[u8], out: &mut [u8], dropped: &mut [u32]) -> Outcome
     ensures text { Printed 26628 (answered file.now out.old dropped.old) out.old result.length out.new }
     ensures list { dropped.new ≡ salvage_list file.now out.old dropped.old }
 {
-    let mut length: usize = 0;
-    let mut count: usize = 0;
-    let mut spare: u32 = 0;
-    let mut pad: u32 = 0;
-    let mut wrong: u32 = 0;
-    let number = daybook_salvage(
-        file,
-        out,
-        dropped,
-        &mut length,
-        &mut count,
-        &mut spare,
-        &mut pad,
-        &mut wrong,
-    );
-    let cells = dayfile::cells(dayfile::header(file));
-    if number != 0 {
-        return Outcome {
-            number,
-            length: refused(number, out) as u32,
-            cells,
-            kept: 0,
-            dropped: 0,
-            spare: false,
-            pad: false,
-            wrong_length: false,
-        };
-    }
-    Outcome {
-        number,
-        length: length as u32,
-        cells,
-        kept: cells - count as u32,
-        dropped: count as u32,
-        spare: spare == 1,
-        pad: pad == 1,
-        wrong_length: wrong == 1,
+    let cells = dayfile::header(file).cells();
+    match salvage(file, out, dropped) {
+        Ok(saved) => {
+            let gone = saved.dropped as u32;
+            Outcome {
+                number: 0,
+                length: saved.length as u32,
+                cells,
+                kept: cells - gone,
+                dropped: gone,
+                spare: saved.spare,
+                pad: saved.pad,
+                wrong_length: saved.wrong_length,
+            }
+        }
+        Err(refusal) => {
+            let number = refusal.number();
+            Outcome {
+                number,
+                length: refused(number, out) as u32,
+                cells,
+                kept: 0,
+                dropped: 0,
+                spare: false,
+                pad: false,
+                wrong_length: false,
+            }
+        }
     }
 }

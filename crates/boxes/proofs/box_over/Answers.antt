@@ -1,13 +1,18 @@
 -- In each turn the box is lent to `grow` and comes back grown by the next vertex; where none is left, its ends are those of the rules.
-use Rattle.std.proofs.Common.{◌∙◌, arith}
-use Rattle.boxes.proofs.Growing.{grown-next, grown-last}
+use Rattle.std.proofs.Common.{◌+◌, ◌<◌, ◌∙◌, length, arith}
+use Rattle.boxes.proofs.Growing.{behind-first, next-behind, grown-next, grown-last}
 use Rattle.boxes.proofs.box_over.Goals as goal
 
-pub loop-i-init : goal.loop-i-init
-loop-i-init c = rw c.first_box-bounds.ensures
-
-pub loop-i-preserved : goal.loop-i-preserved
-loop-i-preserved c = rw (c.grow.ensures, c.point_at.ensures) (grown-next c.args.axes c.args.coordinates.now c.loop-i.bounds c.args.vertices.now c.loop-i.i c.loop-i-test.true ∙ c.loop-i.invariant)
+pub loop-v-preserved : goal.loop-v-preserved
+loop-v-preserved c =
+    let vs = c.args.vertices.now in
+    let i = c.loop-v.v-index in
+    let n = behind-first vs c.requires.1 in
+    let l : i + 1 < length vs = omega arith in
+    rw (c.grow.ensures, c.point-in-loop-v.ensures, next-behind vs i l) (grown-next c.args.axes c.args.coordinates.now c.loop-v.bounds vs (i + 1) l ∙ c.loop-v.invariant)
 
 pub returns : goal.returns
-returns c = grown-last c.args.axes c.args.coordinates.now c.loop-i.bounds c.args.vertices.now c.loop-i.i (omega arith) c.loop-i.invariant c.requires.1
+returns c =
+    let vs = c.args.vertices.now in
+    let n = behind-first vs c.requires.1 in
+    grown-last c.args.axes c.args.coordinates.now c.loop-v.bounds vs (c.loop-v.v-index + 1) (omega arith) c.loop-v.invariant c.requires.1

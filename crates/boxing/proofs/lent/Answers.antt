@@ -8,17 +8,14 @@ use lib.ListN.{length}
 use lib.Dec.{eqb}
 use Rattle.rules.specs.Book.{count}
 use Rattle.book.proofs.Flags.{off, on}
-use Rattle.boxing.specs.Answers.{lent_number}
 use Rattle.boxing.proofs.Answered.{axes-low, axes-high, length-off, not_finite, lendable}
 use Rattle.boxing.proofs.lent.Goals as goal
 
-pub returns-then-axes-lt2 : goal.returns-then-axes-lt2
-unfolding lent_number
-returns-then-axes-lt2 c = let a = c.args in axes-low a.book.now a.coordinates.now a.axes (omega arith)
+pub returns-then-axes-lt2-clause-number : goal.returns-then-axes-lt2-clause-number
+returns-then-axes-lt2-clause-number c = let a = c.args in axes-low a.book.now a.coordinates.now a.axes (omega arith)
 
-pub returns-then-axes-gt3 : goal.returns-then-axes-gt3
-unfolding lent_number
-returns-then-axes-gt3 c = let a = c.args in axes-high a.book.now a.coordinates.now a.axes (omega arith)
+pub returns-then-axes-gt3-clause-number : goal.returns-then-axes-gt3-clause-number
+returns-then-axes-gt3-clause-number c = let a = c.args in axes-high a.book.now a.coordinates.now a.axes (omega arith)
 
 pub overflow_mul-sized : goal.overflow_mul-sized
 overflow_mul-sized c =
@@ -26,9 +23,8 @@ overflow_mul-sized c =
     (omega arith, omega arith) in
     omega (arith, mul-le-mul_right c.count.result (axed).1, c.count.type_inv)
 
-pub returns-then-not-sized : goal.returns-then-not-sized
-unfolding lent_number
-returns-then-not-sized c =
+pub returns-then-not-sized-clause-number : goal.returns-then-not-sized-clause-number
+returns-then-not-sized-clause-number c =
     let axed : let a = c.args in (2 ≤ a.axes) × (a.axes ≤ 3) =
     (omega arith, omega arith) in
     let sized : let a = c.args in eqb (length a.coordinates.now) (a.axes * c.count.result) ≡ eqb (length a.coordinates.now) (a.axes * count a.book.now 0) =
@@ -38,9 +34,8 @@ returns-then-not-sized c =
     let x = axed in
     length-off a.book.now a.coordinates.now a.axes x.0 x.1 (off (sized) (ne_eqb _ _ c.if-not-sized.true))
 
-pub returns-then-not-finite : goal.returns-then-not-finite
-unfolding lent_number
-returns-then-not-finite c =
+pub returns-then-not-finite-clause-number : goal.returns-then-not-finite-clause-number
+returns-then-not-finite-clause-number c =
     let axed : let a = c.args in (2 ≤ a.axes) × (a.axes ≤ 3) =
     (omega arith, omega arith) in
     let sized : let a = c.args in eqb (length a.coordinates.now) (a.axes * c.count.result) ≡ eqb (length a.coordinates.now) (a.axes * count a.book.now 0) =
@@ -50,9 +45,8 @@ returns-then-not-finite c =
     let x = axed in
     not_finite a.book.now a.coordinates.now a.axes x.0 x.1 (on (sized) (eq-eqb _ _ c.if-not-sized.false)) (off c.all_finite-finite.ensures c.if-not-finite.true)
 
-pub returns : goal.returns
-unfolding lent_number
-returns c =
+pub returns-clause-number : goal.returns-clause-number
+returns-clause-number c =
     let axed : let a = c.args in (2 ≤ a.axes) × (a.axes ≤ 3) =
     (omega arith, omega arith) in
     let sized : let a = c.args in eqb (length a.coordinates.now) (a.axes * c.count.result) ≡ eqb (length a.coordinates.now) (a.axes * count a.book.now 0) =

@@ -1,33 +1,21 @@
--- The invariant: `many` of the vertices passed are marked.
-use mathlib.Core.Path.{◌≡◌, ap, ◌∙◌}
-use Prim.Native.Nat.{ℕ}
+-- The marks of the vertices below n are filtered and counted.
+use mathlib.Core.Path.{◌≡◌, ◌∙◌}
 use native.Mathlib.Omega.{arith}
-use lib.ListN.{length}
-use borrow.Author.Tests.{eq-eqb, ne_eqb}
-use Rattle.rules.specs.Lists.{up_to, keep}
+use lib.ListN.{length, take}
+use lib.Dec.{eqb}
+use borrow.Author.Rules.{rules}
+use borrow.Author.Tests.{tests}
+use Rattle.std.proofs.lemmas.Iterator.{YieldsList-from_slice}
+use Rattle.std.proofs.lemmas.Iterator.Consumers.{count_from_yields_List, YieldsList-from_filter}
+use Rattle.std.specs.List.{filter}
 use Rattle.rules.specs.Stamps.{bears}
-use Rattle.rules.proofs.First.{kept-none, kept_more, kept_same}
-use Rattle.cells.proofs.marked.Goals.{then-marks-v-eq1, else-marks-v-eq1}
+use Rattle.cells.proofs.Marks.{filtered-kept}
 use Rattle.cells.proofs.marked.Goals as goal
 
-pub loop-v-init : goal.loop-v-init
-loop-v-init c = (omega arith, omega arith, kept-none (bears c.args.marks.now 1))
-
-pub bounds-marks-v : goal.bounds-marks-v
-bounds-marks-v c = omega (arith, c.requires)
-
-pub loop-v-preserved : goal.loop-v-preserved
-unfolding bears
-loop-v-preserved c =
-    let marks = c.args.marks.now in
-    let l = c.loop-v in
-    elim c.if-marks-v-eq1.branch [
-      | then-marks-v-eq1 w ↦ (omega arith, omega arith, w.many-is ∙ kept_more (bears marks 1) l.v l.many l.invariant.2 (eq-eqb _ _ w.if-marks-v-eq1.true))
-      | else-marks-v-eq1 w ↦ (omega arith, omega arith, w.many-is ∙ kept_same (bears marks 1) l.v l.many l.invariant.2 (ne_eqb _ _ w.if-marks-v-eq1.false))
-    ]
-
 pub returns : goal.returns
+unfolding bears
 returns c =
-    let l = c.loop-v in
-    let k : l.v ≡ c.args.n = omega arith in
-    l.invariant.2 ∙ ap (λ (k : ℕ). length (keep (bears c.args.marks.now 1) (up_to k))) k
+    let m = c.args.marks.now in
+    let n = c.args.n in
+    let e : c.count.result ≡ length (filter (λ x. eqb x 1) (take n m)) = count_from_yields_List c.filter.result c.count.result c.count.ensures.ran (YieldsList-from_filter _ (λ x. eqb x 1) (YieldsList-from_slice (take n m) (search rules)) c.filter.ensures.closure (λ x r q k. search (rules, tests))) in
+    e ∙ filtered-kept (λ x. eqb x 1) m n (omega arith)

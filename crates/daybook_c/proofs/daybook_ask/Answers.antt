@@ -1,38 +1,10 @@
--- Each answer has its number; with 11 its place.
-use mathlib.Core.Path.{refl, sym, ap, ◌∙◌}
-use Rattle.rules.proofs.Told.{told-place}
-use Rattle.daybook.specs.Answers.{asked_number, asked_place}
+-- With 11 the place is the book's.
+use mathlib.Core.Path.{◌≡◌, refl, sym, ap, ◌∙◌}
+use Rattle.daybook_c.proofs.Telling.{book-key, book-position}
 use Rattle.daybook_c.proofs.daybook_ask.Goals as goal
 
-pub returns-in-Accepted : goal.returns-in-Accepted
-unfolding asked_number
-returns-in-Accepted c =
-    let w = c.ask.ensures in record { number = sym (ap asked_number c.in-Accepted.is) ∙ w.number; key = refl; position = refl; words = w.words }
+pub returns-in-Err-clause-key : goal.returns-in-Err-clause-key
+returns-in-Err-clause-key c = c.refused.ensures.key ∙ book-key c.in-Err.refusal _ _ c.refused.ensures.number c.in-Err.ensures.number _ c.in-Err.ensures.place _
 
-pub returns-in-FrameBroken : goal.returns-in-FrameBroken
-unfolding asked_number
-returns-in-FrameBroken c =
-    let w = c.ask.ensures in record { number = sym (ap asked_number c.in-FrameBroken.is) ∙ w.number; key = refl; position = refl; words = w.words }
-
-pub returns-in-RowsBroken : goal.returns-in-RowsBroken
-unfolding asked_number asked_place
-returns-in-RowsBroken c =
-    let w = c.ask.ensures in
-    let t = c.in-RowsBroken.is in
-    let e = sym (ap asked_number t) ∙ w.number in
-    let p = told-place _ _ _ e (sym (ap asked_place t) ∙ w.place) in record { number = e; key = p.0; position = p.1; words = w.words }
-
-pub returns-in-DimensionOver : goal.returns-in-DimensionOver
-unfolding asked_number
-returns-in-DimensionOver c =
-    let w = c.ask.ensures in record { number = sym (ap asked_number c.in-DimensionOver.is) ∙ w.number; key = refl; position = refl; words = w.words }
-
-pub returns-in-NumberDiffers : goal.returns-in-NumberDiffers
-unfolding asked_number
-returns-in-NumberDiffers c =
-    let w = c.ask.ensures in record { number = sym (ap asked_number c.in-NumberDiffers.is) ∙ w.number; key = refl; position = refl; words = w.words }
-
-pub returns-in-NoRoom : goal.returns-in-NoRoom
-unfolding asked_number
-returns-in-NoRoom c =
-    let w = c.ask.ensures in record { number = sym (ap asked_number c.in-NoRoom.is) ∙ w.number; key = refl; position = refl; words = w.words }
+pub returns-in-Err-clause-position : goal.returns-in-Err-clause-position
+returns-in-Err-clause-position c = c.refused.ensures.position ∙ book-position c.in-Err.refusal _ _ c.refused.ensures.number c.in-Err.ensures.number _ c.in-Err.ensures.place _

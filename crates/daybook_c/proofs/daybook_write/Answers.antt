@@ -1,29 +1,10 @@
--- Each answer has its number; where accepted, the length, and with 11 the place.
-use mathlib.Core.Path.{refl, sym, ap, ◌∙◌}
-use Rattle.rules.proofs.Told.{told-place}
-use Rattle.reading.specs.Answers.{written_number, written_place, written_length}
+-- With 11 the place is the book's.
+use mathlib.Core.Path.{◌≡◌, refl, sym, ap, ◌∙◌}
+use Rattle.daybook_c.proofs.Telling.{book-key, book-position}
 use Rattle.daybook_c.proofs.daybook_write.Goals as goal
 
-pub returns-in-Bytes : goal.returns-in-Bytes
-unfolding written_number written_place written_length
-returns-in-Bytes c =
-    let w = c.write.ensures in
-    let t = c.in-Bytes.is in record { number = sym (ap written_number t) ∙ w.number; key = refl; position = refl; length = sym (ap written_length t) ∙ w.length (ap written_number t); bytes = w.bytes }
+pub returns-in-Err-clause-key : goal.returns-in-Err-clause-key
+returns-in-Err-clause-key c = c.refused.ensures.key ∙ book-key c.in-Err.refusal _ _ c.refused.ensures.number c.in-Err.ensures.number _ c.in-Err.ensures.place _
 
-pub returns-in-FrameBroken : goal.returns-in-FrameBroken
-unfolding written_number
-returns-in-FrameBroken c =
-    let w = c.write.ensures in record { number = sym (ap written_number c.in-FrameBroken.is) ∙ w.number; key = refl; position = refl; length = refl; bytes = w.bytes }
-
-pub returns-in-RowsBroken : goal.returns-in-RowsBroken
-unfolding written_number written_place
-returns-in-RowsBroken c =
-    let w = c.write.ensures in
-    let t = c.in-RowsBroken.is in
-    let e = sym (ap written_number t) ∙ w.number in
-    let p = told-place _ _ _ e (sym (ap written_place t) ∙ w.place) in record { number = e; key = p.0; position = p.1; length = refl; bytes = w.bytes }
-
-pub returns-in-BufferTooShort : goal.returns-in-BufferTooShort
-unfolding written_number
-returns-in-BufferTooShort c =
-    let w = c.write.ensures in record { number = sym (ap written_number c.in-BufferTooShort.is) ∙ w.number; key = refl; position = refl; length = refl; bytes = w.bytes }
+pub returns-in-Err-clause-position : goal.returns-in-Err-clause-position
+returns-in-Err-clause-position c = c.refused.ensures.position ∙ book-position c.in-Err.refusal _ _ c.refused.ensures.number c.in-Err.ensures.number _ c.in-Err.ensures.place _

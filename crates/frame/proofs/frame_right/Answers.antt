@@ -1,166 +1,58 @@
--- Each test leaves the rest of the frame rule, or decides it.
-use mathlib.Core.Path.{◌≡◌, sym, ap, ◌∙◌}
-use mathlib.Core.Bool.{true, false}
-use Prim.Native.Nat.{◌^◌}
+-- Each test that holds leaves the rest of the frame rule, and one that fails decides it.
+use mathlib.Core.Path.{◌≡◌, refl, ◌∙◌}
 use native.Mathlib.Omega.{arith}
-use borrow.Author.Tests.{lt-ltb, le-ltb, le-leb, lt-leb}
-use lib.ListN.{length, get_or}
-use Rattle.rules.specs.Book.{dim, key, held, head_right, frame_right}
+use borrow.Author.Tests.{le-leb, lt-leb}
+use lib.ListN.{length}
 use Rattle.rules.proofs.AnyWords.{dim-most}
-use Rattle.book.proofs.Flags.{off, on}
-use Rattle.frame.proofs.FrameLeft.{from_head, from_keys, from_each_key, from_cells, from_edges, from_faces, from_used}
+use Rattle.frame.proofs.SoFar.{made, not_made, to_head, to_mask, to_keys, to_cells, to_edges, to_faces, used_right, whole_frame}
+use Rattle.frame.proofs.frame_right.Goals.{Joined-count_right, then-book-ge-HEAD, else-book-ge-HEAD, then-head_right, else-head_right, then-word-lt-MASKS, else-word-lt-MASKS, then-keys_right, else-keys_right, then-held, else-held, then-count_right, else-count_right}
 use Rattle.frame.proofs.frame_right.Goals as goal
 
-pub returns-then-book-lt5 : goal.returns-then-book-lt5
-unfolding frame_right
-returns-then-book-lt5 c =
-    let b = c.args.book.now in
-    rw (lt-leb 5 (length b) c.if-book-lt5.true)
-
-pub returns-then-not-head_right : goal.returns-then-not-head_right
-unfolding frame_right
-returns-then-not-head_right c =
-    let long : frame_right c.args.book.now ≡ from_head c.args.book.now =
-    let b = c.args.book.now in
-    rw (le-leb 5 (length b) c.if-book-lt5.false) in
-    let b = c.args.book.now in
-    let h : head_right (get_or b 0 0) ≡ false = off (c.head_right.ensures ∙ ap head_right c.word.ensures) c.if-not-head_right.true in
-    sym (long ∙ rw h)
-
-pub returns-then-word-ge65536 : goal.returns-then-word-ge65536
-unfolding frame_right
-returns-then-word-ge65536 c =
-    let long : frame_right c.args.book.now ≡ from_head c.args.book.now =
-    let b = c.args.book.now in
-    rw (le-leb 5 (length b) c.if-book-lt5.false) in
-    let headed : frame_right c.args.book.now ≡ from_keys c.args.book.now =
-    let b = c.args.book.now in
-    let h : head_right (get_or b 0 0) ≡ true = on (c.head_right.ensures ∙ ap head_right c.word.ensures) c.if-not-head_right.false in
-    long ∙ rw h in
-    let b = c.args.book.now in
-    let e = c.word-2.ensures in
-    sym (headed ∙ rw (le-ltb (get_or b 1 0) (2 ^ 16) (omega (arith, e, c.if-word-ge65536.true))))
-
-pub returns-then-not-keys_right : goal.returns-then-not-keys_right
-unfolding frame_right
-returns-then-not-keys_right c =
-    let long : frame_right c.args.book.now ≡ from_head c.args.book.now =
-    let b = c.args.book.now in
-    rw (le-leb 5 (length b) c.if-book-lt5.false) in
-    let headed : frame_right c.args.book.now ≡ from_keys c.args.book.now =
-    let b = c.args.book.now in
-    let h : head_right (get_or b 0 0) ≡ true = on (c.head_right.ensures ∙ ap head_right c.word.ensures) c.if-not-head_right.false in
-    long ∙ rw h in
-    let masked : frame_right c.args.book.now ≡ from_each_key c.args.book.now =
-    let b = c.args.book.now in
-    let e = c.word-2.ensures in
-    headed ∙ rw (lt-ltb (get_or b 1 0) (2 ^ 16) (omega (arith, e, c.if-word-ge65536.false))) in
-    sym (masked ∙ rw (off c.keys_right.ensures c.if-not-keys_right.true))
-
 pub key-requires : goal.key-requires
-key-requires c =
-    let e = c.dim.ensures in
-    let m = dim-most c.args.book.now (λ i. (c.type_inv.book i).fits) in
-    (omega (arith, e, m), omega arith)
+key-requires c = let m = dim-most c.args.book.now (λ i. (c.type_inv.book i).fits) in (omega (arith, m, c.dim.ensures), omega arith)
 
-pub returns-then-not-held : goal.returns-then-not-held
-unfolding frame_right
-returns-then-not-held c =
-    let long : frame_right c.args.book.now ≡ from_head c.args.book.now =
-    let b = c.args.book.now in
-    rw (le-leb 5 (length b) c.if-book-lt5.false) in
-    let headed : frame_right c.args.book.now ≡ from_keys c.args.book.now =
-    let b = c.args.book.now in
-    let h : head_right (get_or b 0 0) ≡ true = on (c.head_right.ensures ∙ ap head_right c.word.ensures) c.if-not-head_right.false in
-    long ∙ rw h in
-    let masked : frame_right c.args.book.now ≡ from_each_key c.args.book.now =
-    let b = c.args.book.now in
-    let e = c.word-2.ensures in
-    headed ∙ rw (lt-ltb (get_or b 1 0) (2 ^ 16) (omega (arith, e, c.if-word-ge65536.false))) in
-    let keyed : frame_right c.args.book.now ≡ from_cells c.args.book.now =
-    let b = c.args.book.now in
-    masked ∙ rw (on c.keys_right.ensures c.if-not-keys_right.false) in
-    let b = c.args.book.now in
-    let h : held b (key (dim b) 0) ≡ false = off (c.held.ensures ∙ ap (held b) (c.key.ensures ∙ ap (λ D. key D 0) c.dim.ensures)) c.if-not-held.true in
-    sym (keyed ∙ rw h)
+module _ (c : Joined-count_right) where
+  headed : c.if-book-ge-HEAD.value ≡ to_head c.args.book.now
+  headed = elim c.if-book-ge-HEAD.branch [
+    | then-book-ge-HEAD w ↦ rw (le-leb 5 (length c.args.book.now) w.if-book-ge-HEAD.true) (w.value-is ∙ w.head_right.ensures)
+    | else-book-ge-HEAD w ↦ let f = lt-leb 5 (length c.args.book.now) w.if-book-ge-HEAD.false in rw f (w.value-is ∙ f)
+  ]
 
-pub returns-then-not-count_right : goal.returns-then-not-count_right
-unfolding frame_right
-returns-then-not-count_right c =
-    let long : frame_right c.args.book.now ≡ from_head c.args.book.now =
-    let b = c.args.book.now in
-    rw (le-leb 5 (length b) c.if-book-lt5.false) in
-    let headed : frame_right c.args.book.now ≡ from_keys c.args.book.now =
-    let b = c.args.book.now in
-    let h : head_right (get_or b 0 0) ≡ true = on (c.head_right.ensures ∙ ap head_right c.word.ensures) c.if-not-head_right.false in
-    long ∙ rw h in
-    let masked : frame_right c.args.book.now ≡ from_each_key c.args.book.now =
-    let b = c.args.book.now in
-    let e = c.word-2.ensures in
-    headed ∙ rw (lt-ltb (get_or b 1 0) (2 ^ 16) (omega (arith, e, c.if-word-ge65536.false))) in
-    let keyed : frame_right c.args.book.now ≡ from_cells c.args.book.now =
-    let b = c.args.book.now in
-    masked ∙ rw (on c.keys_right.ensures c.if-not-keys_right.false) in
-    let celled : frame_right c.args.book.now ≡ from_edges c.args.book.now =
-    let b = c.args.book.now in
-    let h : held b (key (dim b) 0) ≡ true = on (c.held.ensures ∙ ap (held b) (c.key.ensures ∙ ap (λ D. key D 0) c.dim.ensures)) c.if-not-held.false in
-    keyed ∙ rw h in
-    sym (celled ∙ rw (off c.count_right.ensures c.if-not-count_right.true))
+  masked : c.if-head_right.value ≡ to_mask c.args.book.now
+  masked = elim c.if-head_right.branch [
+    | then-head_right w ↦ made headed w.if-head_right.true (w.value-is ∙ rw w.word.ensures)
+    | else-head_right w ↦ not_made _ headed w.if-head_right.false w.value-is
+  ]
 
-pub returns-then-not-count_right-2 : goal.returns-then-not-count_right-2
-unfolding frame_right
-returns-then-not-count_right-2 c =
-    let long : frame_right c.args.book.now ≡ from_head c.args.book.now =
-    let b = c.args.book.now in
-    rw (le-leb 5 (length b) c.if-book-lt5.false) in
-    let headed : frame_right c.args.book.now ≡ from_keys c.args.book.now =
-    let b = c.args.book.now in
-    let h : head_right (get_or b 0 0) ≡ true = on (c.head_right.ensures ∙ ap head_right c.word.ensures) c.if-not-head_right.false in
-    long ∙ rw h in
-    let masked : frame_right c.args.book.now ≡ from_each_key c.args.book.now =
-    let b = c.args.book.now in
-    let e = c.word-2.ensures in
-    headed ∙ rw (lt-ltb (get_or b 1 0) (2 ^ 16) (omega (arith, e, c.if-word-ge65536.false))) in
-    let keyed : frame_right c.args.book.now ≡ from_cells c.args.book.now =
-    let b = c.args.book.now in
-    masked ∙ rw (on c.keys_right.ensures c.if-not-keys_right.false) in
-    let celled : frame_right c.args.book.now ≡ from_edges c.args.book.now =
-    let b = c.args.book.now in
-    let h : held b (key (dim b) 0) ≡ true = on (c.held.ensures ∙ ap (held b) (c.key.ensures ∙ ap (λ D. key D 0) c.dim.ensures)) c.if-not-held.false in
-    keyed ∙ rw h in
-    let edged : frame_right c.args.book.now ≡ from_faces c.args.book.now =
-    let b = c.args.book.now in
-    celled ∙ rw (on c.count_right.ensures c.if-not-count_right.false) in
-    sym (edged ∙ rw (off c.count_right-2.ensures c.if-not-count_right-2.true))
+  keyed : c.if-word-lt-MASKS.value ≡ to_keys c.args.book.now
+  keyed = elim c.if-word-lt-MASKS.branch [
+    | then-word-lt-MASKS w ↦ made masked w.if-word-lt-MASKS.true (w.value-is ∙ w.keys_right.ensures)
+    | else-word-lt-MASKS w ↦ not_made _ masked w.if-word-lt-MASKS.false w.value-is
+  ]
 
-faced : (c : goal.After-used_right) → frame_right c.args.book.now ≡ from_used c.args.book.now
-unfolding frame_right
-faced c =
-    let long : frame_right c.args.book.now ≡ from_head c.args.book.now =
-    let b = c.args.book.now in
-    rw (le-leb 5 (length b) c.if-book-lt5.false) in
-    let headed : frame_right c.args.book.now ≡ from_keys c.args.book.now =
-    let b = c.args.book.now in
-    let h : head_right (get_or b 0 0) ≡ true = on (c.head_right.ensures ∙ ap head_right c.word.ensures) c.if-not-head_right.false in
-    long ∙ rw h in
-    let masked : frame_right c.args.book.now ≡ from_each_key c.args.book.now =
-    let b = c.args.book.now in
-    let e = c.word-2.ensures in
-    headed ∙ rw (lt-ltb (get_or b 1 0) (2 ^ 16) (omega (arith, e, c.if-word-ge65536.false))) in
-    let keyed : frame_right c.args.book.now ≡ from_cells c.args.book.now =
-    let b = c.args.book.now in
-    masked ∙ rw (on c.keys_right.ensures c.if-not-keys_right.false) in
-    let celled : frame_right c.args.book.now ≡ from_edges c.args.book.now =
-    let b = c.args.book.now in
-    let h : held b (key (dim b) 0) ≡ true = on (c.held.ensures ∙ ap (held b) (c.key.ensures ∙ ap (λ D. key D 0) c.dim.ensures)) c.if-not-held.false in
-    keyed ∙ rw h in
-    let edged : frame_right c.args.book.now ≡ from_faces c.args.book.now =
-    let b = c.args.book.now in
-    celled ∙ rw (on c.count_right.ensures c.if-not-count_right.false) in
-    let b = c.args.book.now in
-    edged ∙ rw (on c.count_right-2.ensures c.if-not-count_right-2.false)
+  celled : c.if-keys_right.value ≡ to_cells c.args.book.now
+  celled = elim c.if-keys_right.branch [
+    | then-keys_right w ↦ made keyed w.if-keys_right.true (w.value-is ∙ w.held.ensures ∙ rw (w.key.ensures, w.dim.ensures))
+    | else-keys_right w ↦ not_made _ keyed w.if-keys_right.false w.value-is
+  ]
 
-pub returns : goal.returns
-unfolding frame_right
-returns c =
-    c.used_right.ensures ∙ sym (faced c)
+  edged : c.if-held.value ≡ to_edges c.args.book.now
+  edged = elim c.if-held.branch [
+    | then-held w ↦ made celled w.if-held.true (w.value-is ∙ w.count_right.ensures)
+    | else-held w ↦ not_made _ celled w.if-held.false w.value-is
+  ]
+
+  faced : c.if-count_right.value ≡ to_faces c.args.book.now
+  faced = elim c.if-count_right.branch [
+    | then-count_right w ↦ made edged w.if-count_right.true (w.value-is ∙ w.count_right-then-count_right.ensures)
+    | else-count_right w ↦ not_made _ edged w.if-count_right.false w.value-is
+  ]
+
+pub returns-then-count_right-2 : goal.returns-then-count_right-2
+returns-then-count_right-2 c =
+    made (faced (goal.at.returns-then-count_right-2 c).Joined-count_right) c.if-count_right-2.true c.used_right.ensures ∙ whole_frame c.args.book.now
+
+pub returns-else-count_right-2 : goal.returns-else-count_right-2
+returns-else-count_right-2 c =
+    let b = c.args.book.now in
+    not_made (used_right b) (faced (goal.at.returns-else-count_right-2 c).Joined-count_right) c.if-count_right-2.false refl ∙ whole_frame b

@@ -11,10 +11,10 @@ pub returns-then-k-top : goal.returns-then-k-top
 unfolding key_right
 returns-then-k-top c =
     let a = c.args in
-    rw (lt-leb (a.k / 4) (dim a.book.now) (omega arith))
-
-pub returns : goal.returns
-unfolding key_right
-returns c =
-    let a = c.args in
     rw (le-leb (a.k / 4) (dim a.book.now) (omega arith)) (ap (leb (a.k % 4)) c.dim-top.ensures)
+
+pub returns-else-k-top : goal.returns-else-k-top
+unfolding key_right
+returns-else-k-top c =
+    let a = c.args in
+    rw (lt-leb (a.k / 4) c.dim-top.result c.if-k-top.false, lt-leb (a.k / 4) (dim a.book.now) (omega arith))

@@ -1,36 +1,37 @@
--- The invariant: the keys passed that are held are right.
-use mathlib.Core.Path.{sym, ◌∙◌}
-use mathlib.Core.Bool.{true≢false}
+-- Each key below 16 that is held is right.
+use mathlib.Core.Path.{◌≡◌, refl, sym, subst}
+use mathlib.Core.Bool.{Bool, true, false}
+use mathlib.Core.List.{List}
+use Prim.Native.Nat.{ℕ, ◌<◌}
 use native.Mathlib.Omega.{arith}
-use borrow.Author.Count.{below_more}
+use borrow.Author.Tests.{tests}
+use borrow.Author.Rules.{rules}
+use lib.ListN.{get_or}
+use Rattle.std.specs.Bool.{MatchBool}
+use Rattle.std.specs.List.{range_with_len, AllWithin, HoldsAt}
+use Rattle.std.proofs.lemmas.Iterator.{cases_from_all, YieldsList-from_range}
+use Rattle.std.proofs.lemmas.List.FromFn.{get_or-range_with_len}
+use Rattle.rules.specs.Lists.{up_to, all_of, keep}
 use Rattle.rules.specs.Book.{held, keys_held, key_right}
 use Rattle.rules.proofs.Steps.{all-kept-are, all-kept-not}
-use Rattle.book.proofs.Flags.{off, on}
-use Rattle.frame.proofs.keys_right.Goals.{then-held+else-not-key_right, else-held}
 use Rattle.frame.proofs.keys_right.Goals as goal
 
-pub loop-k-init : goal.loop-k-init
-loop-k-init c = (omega arith, λ j l. absurd (omega arith))
+at : (n k : ℕ) → k < n → get_or (range_with_len 0 n) k 0 ≡ k
+at n k l = omega (arith, get_or-range_with_len 0 n k 0 l)
 
-pub returns-then-not-key_right : goal.returns-then-not-key_right
-unfolding keys_held
-returns-then-not-key_right c =
-    let b = c.args.book.now in
-    let l = c.loop-k in
-    sym (all-kept-not (key_right b) (held b) 16 l.k (omega arith) (sym c.held.ensures ∙ c.if-held.true) (off c.key_right.ensures c.if-not-key_right.true))
+module _ (ws : List ℕ) where
+  abbrev Passes : ℕ → Type 0
+  Passes k = held ws k ≡ true → key_right ws k ≡ true
 
-pub loop-k-preserved : goal.loop-k-preserved
-loop-k-preserved c = (
-  omega arith,
-  below_more _ _ c.loop-k.invariant.1
-      (λ h. elim c.if-held.branch [
-        | then-held+else-not-key_right w ↦ on w.key_right.ensures w.if-not-key_right.false
-        | else-held w ↦ absurd (true≢false (sym h ∙ sym c.held.ensures ∙ w.if-held.false))
-      ]),
-)
+  abbrev Fails : ℕ → Type 0
+  Fails k = (held ws k ≡ true) × (key_right ws k ≡ false)
+
+  judged : (n : ℕ) (r : Bool) → MatchBool r (AllWithin Passes (range_with_len 0 n) 0 n) ((k : ℕ) × (k < n) × HoldsAt Fails (range_with_len 0 n) k) → r ≡ all_of (key_right ws) (keep (held ws) (up_to n))
+  judged n true h = sym (all-kept-are (key_right ws) (held ws) n (λ k l. subst Passes (at n k l) (h k 0 (omega arith) l)))
+  judged n false (k, l, h) = let g = subst Fails (at n k l) (h 0) in sym (all-kept-not (key_right ws) (held ws) n k l g.0 g.1)
 
 pub returns : goal.returns
 unfolding keys_held
 returns c =
     let b = c.args.book.now in
-    sym (all-kept-are (key_right b) (held b) 16 (λ k l h. c.loop-k.invariant.1 k (omega arith) h))
+    judged b 16 c.all.result (cases_from_all _ _ _ (Passes b) (Fails b) c.all.ensures.ran (YieldsList-from_range 0 16 16 refl refl) (λ x q k. search (rules, tests)) (λ x q k. search (rules, tests)))

@@ -1,116 +1,50 @@
--- The invariant is `Filled`: i rows and i + 1 offsets are written. The measure is the rows left.
-use mathlib.Core.Path.{◌≡◌}
-use mathlib.Core.List.{List}
-use Prim.Native.Nat.{ℕ, min}
-use lib.ListN.{length}
+-- i rows and i + 1 offsets are written.
+use Rattle.std.proofs.Common.{◌≡◌, ℕ, List, arith, length}
+use Prim.Native.Nat.{min}
 use Rattle.intersecting.specs.Inner.{inner_row}
 use Rattle.relations.proofs.Placed.{rows-front}
 use Rattle.merging.proofs.Front.{incidence-front}
 use Rattle.intersecting.proofs.InnerRows.{inner_row-front, length-inner_row}
-use Rattle.relations.proofs.RowByRow.{Base, row-start, row-front, row-size, row-reach, row-after, row-size-after, row-later, row_more, row-all}
-use native.Mathlib.Omega.{arith}
+use Rattle.relations.proofs.RowByRow.{Base, row-start, row-front, row-size, row-reach, row-after, row-size-after, row_more, row-all}
+use Rattle.intersecting.proofs.inner.Goals.{After-put}
 use Rattle.intersecting.proofs.inner.Goals as goal
 
-pub loop-i-init : goal.loop-i-init
-loop-i-init c =
-    let base : let s = c in let a = s.args in Base (λ (vs : List ℕ). inner_row vs a.own.0 a.n a.back.0 a.v a.sub.0 a.b) a.book.now c.put.new.book a.n a.dst.0 (min a.dst.0 (length a.book.now)) =
-    let s = c in
-    let a = s.args in
+-- the rows are read from the words before `dst`
+base : (c : goal.After-put) → Base (λ (vs : List ℕ). inner_row vs c.args.own.at.0 c.args.own.rows c.args.back.at.0 c.args.back.rows c.args.sub.at.0 c.args.sub.rows) c.args.book.now c.put.new.book c.args.own.rows c.args.dst.0 (min c.args.dst.0 (length c.args.book.now))
+base c =
+    let a = c.args in
     record {
       first = c.put.ensures;
       before = omega arith;
-      same = λ vs q. inner_row-front vs a.book.now (min a.dst.0 (length a.book.now)) q a.own.0 a.n a.back.0 a.v s.requires.incidence.through a.sub.0 a.b s.requires.rows;
-      short = λ vs i. omega (arith, length-inner_row vs a.own.0 a.n a.back.0 a.v a.sub.0 a.b i, s.requires.few);
-    } in
-    (omega arith, row-start (base))
+      same = λ vs q. inner_row-front vs a.book.now (min a.dst.0 (length a.book.now)) q a.own.at.0 a.own.rows a.back.at.0 a.back.rows c.requires.incidence.through a.sub.at.0 a.sub.rows c.requires.rows;
+      short = λ vs i. omega (arith, length-inner_row vs a.own.at.0 a.own.rows a.back.at.0 a.back.rows a.sub.at.0 a.sub.rows i, c.requires.few);
+    }
+
+pub loop-i-init : goal.loop-i-init
+loop-i-init c = row-start (base ((goal.at.loop-i-init c).After-put))
 
 pub inner_row-at-requires : goal.inner_row-at-requires
 inner_row-at-requires c =
-    let base : let s = c in let a = s.args in Base (λ (vs : List ℕ). inner_row vs a.own.0 a.n a.back.0 a.v a.sub.0 a.b) a.book.now c.put.new.book a.n a.dst.0 (min a.dst.0 (length a.book.now)) =
-    let s = c in
-    let a = s.args in
-    record {
-      first = c.put.ensures;
-      before = omega arith;
-      same = λ vs q. inner_row-front vs a.book.now (min a.dst.0 (length a.book.now)) q a.own.0 a.n a.back.0 a.v s.requires.incidence.through a.sub.0 a.b s.requires.rows;
-      short = λ vs i. omega (arith, length-inner_row vs a.own.0 a.n a.back.0 a.v a.sub.0 a.b i, s.requires.few);
-    } in
-    let b = base in
+    let b = base ((goal.at.inner_row-at-requires c).After-put) in
     let t = c.loop-i in
-    let z = row-size b t.invariant.1 in
-    let y = row-after b t.invariant.1 in record { incidence = incidence-front _ _ _ (row-front b t.invariant.1) _ _ _ _ c.requires.incidence _ (omega (arith, z, y)); rows = rows-front _ _ _ (row-front b t.invariant.1) c.requires.rows _ (omega (arith, z, y)); row = c.loop-i-test.true; fits = omega (arith, row-reach b t.invariant.1, c.requires) }
-
-pub overflow_cast-offset : goal.overflow_cast-offset
-overflow_cast-offset c = omega (arith, c.requires)
-
-pub overflow_add-offset : goal.overflow_add-offset
-overflow_add-offset c = omega (arith, c.requires)
-
-pub overflow_add-offset-in-loop-i : goal.overflow_add-offset-in-loop-i
-overflow_add-offset-in-loop-i c = omega (arith, c.requires)
-
-pub overflow_sub-at : goal.overflow_sub-at
-overflow_sub-at c =
-    let base : let s = c in let a = s.args in Base (λ (vs : List ℕ). inner_row vs a.own.0 a.n a.back.0 a.v a.sub.0 a.b) a.book.now c.put.new.book a.n a.dst.0 (min a.dst.0 (length a.book.now)) =
-    let s = c in
-    let a = s.args in
+    let after = row-after b t.invariant in
+    let size = row-size b t.invariant in
     record {
-      first = c.put.ensures;
-      before = omega arith;
-      same = λ vs q. inner_row-front vs a.book.now (min a.dst.0 (length a.book.now)) q a.own.0 a.n a.back.0 a.v s.requires.incidence.through a.sub.0 a.b s.requires.rows;
-      short = λ vs i. omega (arith, length-inner_row vs a.own.0 a.n a.back.0 a.v a.sub.0 a.b i, s.requires.few);
-    } in
-    row-later (base) c.loop-i.invariant.1 c.loop-i-test.true c.inner_row-at.auto.book c.inner_row-at.ensures
+      incidence = incidence-front _ _ _ (row-front b t.invariant) _ _ _ _ c.requires.incidence _ (omega (arith, size, after));
+      rows = rows-front _ _ _ (row-front b t.invariant) c.requires.rows _ (omega (arith, size, after));
+      row = c.loop-i-test.true;
+      fits = omega (arith, row-reach b t.invariant, c.requires);
+    }
 
 pub overflow_cast-at : goal.overflow_cast-at
 overflow_cast-at c =
-    let base : let s = c in let a = s.args in Base (λ (vs : List ℕ). inner_row vs a.own.0 a.n a.back.0 a.v a.sub.0 a.b) a.book.now c.put.new.book a.n a.dst.0 (min a.dst.0 (length a.book.now)) =
-    let s = c in
-    let a = s.args in
-    record {
-      first = c.put.ensures;
-      before = omega arith;
-      same = λ vs q. inner_row-front vs a.book.now (min a.dst.0 (length a.book.now)) q a.own.0 a.n a.back.0 a.v s.requires.incidence.through a.sub.0 a.b s.requires.rows;
-      short = λ vs i. omega (arith, length-inner_row vs a.own.0 a.n a.back.0 a.v a.sub.0 a.b i, s.requires.few);
-    } in
-    omega (arith, row-size-after (base) c.loop-i.invariant.1 c.loop-i-test.true c.inner_row-at.auto.book c.inner_row-at.ensures, c.requires)
+    omega (arith, row-size-after (base ((goal.at.overflow_cast-at c).After-put)) c.loop-i.invariant c.loop-i-test.true c.inner_row-at.auto.book c.inner_row-at.ensures, c.requires)
 
 pub loop-i-preserved : goal.loop-i-preserved
 loop-i-preserved c =
-    let base : let s = c in let a = s.args in Base (λ (vs : List ℕ). inner_row vs a.own.0 a.n a.back.0 a.v a.sub.0 a.b) a.book.now c.put.new.book a.n a.dst.0 (min a.dst.0 (length a.book.now)) =
-    let s = c in
-    let a = s.args in
-    record {
-      first = c.put.ensures;
-      before = omega arith;
-      same = λ vs q. inner_row-front vs a.book.now (min a.dst.0 (length a.book.now)) q a.own.0 a.n a.back.0 a.v s.requires.incidence.through a.sub.0 a.b s.requires.rows;
-      short = λ vs i. omega (arith, length-inner_row vs a.own.0 a.n a.back.0 a.v a.sub.0 a.b i, s.requires.few);
-    } in
-    (omega arith, row_more (base) c.loop-i.invariant.1 c.loop-i-test.true c.inner_row-at.auto.book c.inner_row-at.ensures _ c.put-in-loop-i.ensures)
-
-pub shape_of-book : goal.shape_of-book
-shape_of-book c =
-    let base : let s = c in let a = s.args in Base (λ (vs : List ℕ). inner_row vs a.own.0 a.n a.back.0 a.v a.sub.0 a.b) a.book.now c.put.new.book a.n a.dst.0 (min a.dst.0 (length a.book.now)) =
-    let s = c in
-    let a = s.args in
-    record {
-      first = c.put.ensures;
-      before = omega arith;
-      same = λ vs q. inner_row-front vs a.book.now (min a.dst.0 (length a.book.now)) q a.own.0 a.n a.back.0 a.v s.requires.incidence.through a.sub.0 a.b s.requires.rows;
-      short = λ vs i. omega (arith, length-inner_row vs a.own.0 a.n a.back.0 a.v a.sub.0 a.b i, s.requires.few);
-    } in
-    row-size (base) c.loop-i.invariant.1
+    row_more (base ((goal.at.loop-i-preserved c).After-put)) c.loop-i.invariant c.loop-i-test.true c.inner_row-at.auto.book c.inner_row-at.ensures _ c.put-in-loop-i.ensures
 
 pub returns : goal.returns
 returns c =
-    let base : let s = c in let a = s.args in Base (λ (vs : List ℕ). inner_row vs a.own.0 a.n a.back.0 a.v a.sub.0 a.b) a.book.now c.put.new.book a.n a.dst.0 (min a.dst.0 (length a.book.now)) =
-    let s = c in
-    let a = s.args in
-    record {
-      first = c.put.ensures;
-      before = omega arith;
-      same = λ vs q. inner_row-front vs a.book.now (min a.dst.0 (length a.book.now)) q a.own.0 a.n a.back.0 a.v s.requires.incidence.through a.sub.0 a.b s.requires.rows;
-      short = λ vs i. omega (arith, length-inner_row vs a.own.0 a.n a.back.0 a.v a.sub.0 a.b i, s.requires.few);
-    } in
-    let e : c.loop-i.i ≡ c.args.n = omega arith in
-    row-all (base) _ _ (rw e at c.loop-i.invariant.1)
+    let e : c.loop-i.i ≡ c.args.own.rows = omega arith in
+    row-all (base ((goal.at.returns c).After-put)) _ _ (rw e at c.loop-i.invariant)

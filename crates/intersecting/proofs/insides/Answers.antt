@@ -5,9 +5,9 @@ use Rattle.intersecting.proofs.insides.Goals as goal
 
 pub inner-requires : goal.inner-requires
 inner-requires c =
-    let a = c.requires.ready in let s = c.requires.stands in let t = c.requires.stands_2 in let u = c.requires.stands_3 in let (p, l) = c.requires.from_nonzero in record { incidence = ready-inner a s t u p l; rows = ready-sub a s t u p l; few = inner-few a s t u p l; fits = used-fits a }
+    let a = c.requires.ready in let s = c.requires.own_stands in let t = c.requires.back_stands in let u = c.requires.sub_stands in let (p, l) = c.requires.from_nonzero in record { incidence = ready-inner a s t u p l; rows = ready-sub a s t u p l; few = inner-few a s t u p l; fits = used-fits a }
 
 pub returns : goal.returns
 returns c =
-    let a = c.requires.ready in let s = c.requires.stands in let t = c.requires.stands_2 in let u = c.requires.stands_3 in let (p, l) = c.requires.from_nonzero in
+    let a = c.requires.ready in let s = c.requires.own_stands in let t = c.requires.back_stands in let u = c.requires.sub_stands in let (p, l) = c.requires.from_nonzero in
     rw (inner_made a s t u p l) at c.inner.ensures

@@ -18,13 +18,13 @@ write_head-requires c =
     let head-is : c.header-head.result.0 ≡ field (c.args.file.now) 0 32 =
     c.header-head.ensures in
     let few : head_cells c.header-head.result.0 ≤ 4096 =
-    rw (head-is) c.requires.fits.most in
+    rw (head-is) c.requires.few in
     let low : head_dim c.header-head.result.0 < 4 =
     rw (head-is, head-dim (c.args.file.now)) (dim-below (c.args.file.now)) in
     let e = c in
     let s = e in
     let n : head_dim e.header-head.result.0 + 1 ≤ 4 = omega (arith, low) in
-    (omega (arith, s.requires.room, loaded-length (c.args.file.now)), (omega (arith, e.end_of-used.ensures, few, mul-le-mul (few) n), low))
+    record { room = omega (arith, s.requires.room, loaded-length (c.args.file.now)); word = omega (arith, e.end_of-used.ensures, few, mul-le-mul (few) n); dim = low }
 
 pub overflow_add-dimension : goal.overflow_add-dimension
 overflow_add-dimension c =
@@ -39,20 +39,11 @@ write_offsets-requires c =
     let head-is : c.header-head.result.0 ≡ field (c.args.file.now) 0 32 =
     c.header-head.ensures in
     let few : head_cells c.header-head.result.0 ≤ 4096 =
-    rw (head-is) c.requires.fits.most in
+    rw (head-is) c.requires.few in
     let low : head_dim c.header-head.result.0 < 4 =
     rw (head-is, head-dim (c.args.file.now)) (dim-below (c.args.file.now)) in
     let e = c in
     (omega (arith, e.cells-cells.ensures, few), (omega (arith, c.dimension.ensures, low), omega arith))
-
-pub overflow_add-first : goal.overflow_add-first
-overflow_add-first c =
-    let head-is : c.header-head.result.0 ≡ field (c.args.file.now) 0 32 =
-    c.header-head.ensures in
-    let few : head_cells c.header-head.result.0 ≤ 4096 =
-    rw (head-is) c.requires.fits.most in
-    let e = c in
-    omega (arith, e.cells-cells.ensures, few)
 
 pub write_cells-requires : goal.write_cells-requires
 write_cells-requires c =
@@ -63,7 +54,7 @@ write_cells-requires c =
     let o = c in
     let e = o in
     let s = e in
-    (rw (head-is) s.requires.fits, omega (arith, e.end_of-used.ensures, e.cells-cells.ensures, used-is, s.requires.room, o.write_offsets.auto.book, o.write_head.auto.book))
+    record { few = rw (head-is) s.requires.few; room = omega (arith, e.end_of-used.ensures, e.cells-cells.ensures, used-is, s.requires.room, o.write_offsets.auto.book, o.write_head.auto.book) }
 
 pub returns : goal.returns
 returns c =

@@ -14,16 +14,10 @@ key-requires c =
 pub mask_with-goal-requires : goal.mask_with-goal-requires
 mask_with-goal-requires c = let p = c.requires in maskable _ _ _ _ _ _ c.dim.ensures c.word.ensures c.key.ensures p.0 p.1.0 p.1.1
 
-pub apart-requires : goal.apart-requires
-apart-requires c = (c.requires.0, omega arith)
-
 pub returns-then-apart : goal.returns-then-apart
 returns-then-apart c =
     let g = goal-is _ _ _ _ _ _ c.dim.ensures c.word.ensures c.key.ensures _ c.mask_with-goal.ensures in
     any-first _ c.requires.0 _ _ _ g (sym c.if-apart.true ∙ c.apart.ensures)
-
-pub apart-requires-2 : goal.apart-requires-2
-apart-requires-2 c = (c.requires.0, omega arith)
 
 pub returns : goal.returns
 returns c =

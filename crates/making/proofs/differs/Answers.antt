@@ -23,14 +23,14 @@ returns-then-not-mentions c =
     let e = c.mentions.ensures ∙ ap (λ (m : ℕ). mentions (named m) x) c.word.ensures in
     differs-unnamed _ _ (omega (arith, c.if-x-eq0.false)) (omega (arith, c.dim-top.ensures, c.if-x-top.false)) _ e (ap not c.if-not-mentions.true)
 
-pub source_of-cells-requires : goal.source_of-cells-requires
-source_of-cells-requires c = (omega (arith, (framed _ c.requires.frame).high, c.dim-top.ensures), omega arith)
+pub source_of-requires : goal.source_of-requires
+source_of-requires c = (omega (arith, (framed _ c.requires.frame).high, c.dim-top.ensures), omega arith)
 
-pub found-found-requires : goal.found-found-requires
-found-found-requires c = let all = findable _ _ c.requires (omega (arith, c.if-x-eq0.false)) (omega (arith, c.dim-top.ensures, c.if-x-top.false)) _ c.dim-top.ensures _ c.source_of-cells.ensures in record { ready = all.0; source = all.1.0; d_nonzero = all.1.1 }
+pub found-requires-clause-ready : goal.found-requires-clause-ready
+found-requires-clause-ready c = (findable _ _ c.requires (omega (arith, c.if-x-eq0.false)) (omega (arith, c.dim-top.ensures, c.if-x-top.false)) _ c.dim-top.ensures _ c.source_of.ensures).0
 
 pub returns : goal.returns
 returns c =
     let x = c.args.x in
     let e = c.mentions.ensures ∙ ap (λ (m : ℕ). mentions (named m) x) c.word.ensures in
-    differs-found _ _ (omega (arith, c.if-x-eq0.false)) (omega (arith, c.dim-top.ensures, c.if-x-top.false)) _ e (ap not c.if-not-mentions.false) _ _ c.found-found.ensures c.count.ensures
+    differs-found _ _ (omega (arith, c.if-x-eq0.false)) (omega (arith, c.dim-top.ensures, c.if-x-top.false)) _ e (ap not c.if-not-mentions.false) _ _ c.found.ensures c.count.ensures

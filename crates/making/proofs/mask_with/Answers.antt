@@ -1,15 +1,9 @@
 -- Every step keeps the mask at the end, and the mask grows, which stays below 2^16.
 use mathlib.Core.Bool.{not}
-use mathlib.Core.Path.{refl, ◌∙◌, ap}
+use mathlib.Core.Path.{◌∙◌, ap}
 use native.Mathlib.Omega.{arith}
-use Rattle.making.proofs.Differing.{key-near, ends, next-near, more-small, more, more_same}
+use Rattle.making.proofs.Differing.{ends, next-near, more-small, more, more_same}
 use Rattle.making.proofs.mask_with.Goals as goal
-
-pub loop-now-init : goal.loop-now-init
-loop-now-init c = (c.requires.small, refl)
-
-pub next_key-requires : goal.next_key-requires
-next_key-requires c = let m = c.requires in (m.high, key-near m)
 
 pub overflow_shl-now : goal.overflow_shl-now
 overflow_shl-now c = omega (arith, next-near c.requires _ c.loop-now.invariant.0 _ c.named.ensures (ap not c.loop-now-test.true) _ c.next_key.ensures)

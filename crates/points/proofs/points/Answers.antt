@@ -1,135 +1,47 @@
--- The invariant is `Filled`: i rows and i + 1 offsets are written; and no stamp is above i. The measure is the rows left.
-use mathlib.Core.Path.{◌≡◌}
-use mathlib.Core.List.{List}
-use Prim.Native.Nat.{ℕ, min}
-use lib.ListN.{length, length-replicate}
-use native.Mathlib.Omega.{arith}
+-- i rows and i + 1 offsets are written, and no more than i stamps are used.
+use Rattle.std.proofs.Common.{◌≡◌, ℕ, List, arith, length}
+use Prim.Native.Nat.{min}
 use Rattle.merging.specs.Near.{near_row}
-use Rattle.rules.proofs.RightBook.{get_or-zeros}
 use Rattle.merging.proofs.Front.{near_row-front, length-near_row}
-use Rattle.relations.proofs.RowByRow.{Base, row-start, row-front, row-size, row-reach, row-after, row-size-after, row-later, row_more, row-all}
 use Rattle.points.proofs.PointRows.{around-front}
+use Rattle.relations.proofs.RowByRow.{Base, row-start, row-front, row-size, row-reach, row-after, row-size-after, row_more, row-all}
+use Rattle.points.proofs.points.Goals.{After-put}
 use Rattle.points.proofs.points.Goals as goal
 
-pub loop-i-init : goal.loop-i-init
-loop-i-init c =
-    let base : let a = c.args in Base (λ (vs : List ℕ). near_row vs a.own.0 a.n a.back.0 a.v) a.book.now c.put.new.book a.n a.dst.0 (min a.dst.0 (length a.book.now)) =
-    let s = c in
-    let a = s.args in
+-- the rows are read from the words before `dst`
+base : (c : goal.After-put) → Base (λ (vs : List ℕ). near_row vs c.args.own.at.0 c.args.own.rows c.args.back.at.0 c.args.back.rows) c.args.book.now c.put.new.book c.args.own.rows c.args.dst.0 (min c.args.dst.0 (length c.args.book.now))
+base c =
+    let a = c.args in
     record {
       first = c.put.ensures;
       before = omega arith;
-      same = λ vs q. near_row-front vs a.book.now (min a.dst.0 (length a.book.now)) q a.own.0 a.n a.back.0 a.v s.requires.fact_1.through;
-      short = λ vs i. omega (arith, length-near_row vs a.own.0 a.n a.back.0 a.v i, s.requires.fact_1.most);
-    } in (
-      omega arith,
-      record { vertices = length-replicate {A = ℕ} 8192 0; groups = length-replicate {A = ℕ} 512 0; wide = length-replicate {A = ℕ} 32 0; low = λ j. omega (arith, get_or-zeros 8192 j) },
-      row-start (base),
-    )
+      same = λ vs q. near_row-front vs a.book.now (min a.dst.0 (length a.book.now)) q a.own.at.0 a.own.rows a.back.at.0 a.back.rows c.requires.around.through;
+      short = λ vs i. omega (arith, length-near_row vs a.own.at.0 a.own.rows a.back.at.0 a.back.rows i, c.requires.around.most);
+    }
+
+pub loop-i-init : goal.loop-i-init
+loop-i-init c = (omega (arith, c.none-stamps.ensures), row-start (base ((goal.at.loop-i-init c).After-put)))
 
 pub point_row-at-requires : goal.point_row-at-requires
 point_row-at-requires c =
-    let base : let a = c.args in Base (λ (vs : List ℕ). near_row vs a.own.0 a.n a.back.0 a.v) a.book.now c.put.new.book a.n a.dst.0 (min a.dst.0 (length a.book.now)) =
-    let s = c in
-    let a = s.args in
+    let b = base ((goal.at.point_row-at-requires c).After-put) in
+    let t = c.loop-i in
     record {
-      first = c.put.ensures;
-      before = omega arith;
-      same = λ vs q. near_row-front vs a.book.now (min a.dst.0 (length a.book.now)) q a.own.0 a.n a.back.0 a.v s.requires.fact_1.through;
-      short = λ vs i. omega (arith, length-near_row vs a.own.0 a.n a.back.0 a.v i, s.requires.fact_1.most);
-    } in
-    let t = c in
-    let b = base in
-    let l = t.loop-i in
-    let z = row-size b l.invariant.2 in
-    let y = row-after b l.invariant.2 in
-    let s = t in record { fact_1 = around-front _ _ _ (row-front b l.invariant.2) s.requires.fact_1 _ (omega (arith, z, y)); fact_2 = l.invariant.1; fact_3 = t.loop-i-test.true; fact_4 = omega (arith, row-reach b l.invariant.2, s.requires.fact_1.most, s.requires.fact_2) }
-
-pub overflow_add-offset : goal.overflow_add-offset
-overflow_add-offset c =
-    let s = c in
-    omega (arith, s.requires.fact_1.most, s.requires.fact_2)
-
-pub overflow_add-offset-in-loop-i : goal.overflow_add-offset-in-loop-i
-overflow_add-offset-in-loop-i c =
-    let s = c in
-    omega (arith, s.requires.fact_1.most, s.requires.fact_2)
-
-pub overflow_sub-at : goal.overflow_sub-at
-overflow_sub-at c =
-    let base : let a = c.args in Base (λ (vs : List ℕ). near_row vs a.own.0 a.n a.back.0 a.v) a.book.now c.put.new.book a.n a.dst.0 (min a.dst.0 (length a.book.now)) =
-    let s = c in
-    let a = s.args in
-    record {
-      first = c.put.ensures;
-      before = omega arith;
-      same = λ vs q. near_row-front vs a.book.now (min a.dst.0 (length a.book.now)) q a.own.0 a.n a.back.0 a.v s.requires.fact_1.through;
-      short = λ vs i. omega (arith, length-near_row vs a.own.0 a.n a.back.0 a.v i, s.requires.fact_1.most);
-    } in
-    let call = c in
-    let t = call in
-    row-later (base) t.loop-i.invariant.2 t.loop-i-test.true call.point_row-at.auto.book call.point_row-at.ensures.written
+      around = around-front _ _ _ (row-front b t.invariant.1) c.requires.around _ (omega (arith, row-size b t.invariant.1, row-after b t.invariant.1));
+      row = c.loop-i-test.true;
+      stamp = t.invariant.0;
+      place = omega (arith, row-reach b t.invariant.1, c.requires.around.most, c.requires.place);
+    }
 
 pub overflow_cast-at : goal.overflow_cast-at
 overflow_cast-at c =
-    let base : let a = c.args in Base (λ (vs : List ℕ). near_row vs a.own.0 a.n a.back.0 a.v) a.book.now c.put.new.book a.n a.dst.0 (min a.dst.0 (length a.book.now)) =
-    let s = c in
-    let a = s.args in
-    record {
-      first = c.put.ensures;
-      before = omega arith;
-      same = λ vs q. near_row-front vs a.book.now (min a.dst.0 (length a.book.now)) q a.own.0 a.n a.back.0 a.v s.requires.fact_1.through;
-      short = λ vs i. omega (arith, length-near_row vs a.own.0 a.n a.back.0 a.v i, s.requires.fact_1.most);
-    } in
-    let call = c in
-    let t = call in
-    omega (
-      arith,
-      row-size-after (base) t.loop-i.invariant.2 t.loop-i-test.true call.point_row-at.auto.book call.point_row-at.ensures.written,
-      t.requires.fact_1.most,
-    )
+    omega (arith, row-size-after (base ((goal.at.overflow_cast-at c).After-put)) c.loop-i.invariant.1 c.loop-i-test.true c.point_row-at.auto.book c.point_row-at.ensures.written, c.requires.around.most)
 
 pub loop-i-preserved : goal.loop-i-preserved
 loop-i-preserved c =
-    let base : let a = c.args in Base (λ (vs : List ℕ). near_row vs a.own.0 a.n a.back.0 a.v) a.book.now c.put.new.book a.n a.dst.0 (min a.dst.0 (length a.book.now)) =
-    let s = c in
-    let a = s.args in
-    record {
-      first = c.put.ensures;
-      before = omega arith;
-      same = λ vs q. near_row-front vs a.book.now (min a.dst.0 (length a.book.now)) q a.own.0 a.n a.back.0 a.v s.requires.fact_1.through;
-      short = λ vs i. omega (arith, length-near_row vs a.own.0 a.n a.back.0 a.v i, s.requires.fact_1.most);
-    } in
-    let call = c in
-    let t = call in (
-      omega arith,
-      call.point_row-at.ensures.fresh,
-      row_more (base) t.loop-i.invariant.2 t.loop-i-test.true call.point_row-at.auto.book call.point_row-at.ensures.written _ c.put-in-loop-i.ensures,
-    )
-
-pub shape_of-book : goal.shape_of-book
-shape_of-book c =
-    let base : let a = c.args in Base (λ (vs : List ℕ). near_row vs a.own.0 a.n a.back.0 a.v) a.book.now c.put.new.book a.n a.dst.0 (min a.dst.0 (length a.book.now)) =
-    let s = c in
-    let a = s.args in
-    record {
-      first = c.put.ensures;
-      before = omega arith;
-      same = λ vs q. near_row-front vs a.book.now (min a.dst.0 (length a.book.now)) q a.own.0 a.n a.back.0 a.v s.requires.fact_1.through;
-      short = λ vs i. omega (arith, length-near_row vs a.own.0 a.n a.back.0 a.v i, s.requires.fact_1.most);
-    } in
-    row-size (base) c.loop-i.invariant.2
+    (omega (arith, c.point_row-at.ensures.stamp), row_more (base ((goal.at.loop-i-preserved c).After-put)) c.loop-i.invariant.1 c.loop-i-test.true c.point_row-at.auto.book c.point_row-at.ensures.written _ c.put-in-loop-i.ensures)
 
 pub returns : goal.returns
 returns c =
-    let base : let a = c.args in Base (λ (vs : List ℕ). near_row vs a.own.0 a.n a.back.0 a.v) a.book.now c.put.new.book a.n a.dst.0 (min a.dst.0 (length a.book.now)) =
-    let s = c in
-    let a = s.args in
-    record {
-      first = c.put.ensures;
-      before = omega arith;
-      same = λ vs q. near_row-front vs a.book.now (min a.dst.0 (length a.book.now)) q a.own.0 a.n a.back.0 a.v s.requires.fact_1.through;
-      short = λ vs i. omega (arith, length-near_row vs a.own.0 a.n a.back.0 a.v i, s.requires.fact_1.most);
-    } in
-    let e : c.loop-i.i ≡ c.args.n = omega arith in
-    row-all (base) _ _ (rw e at c.loop-i.invariant.2)
+    let e : c.loop-i.i ≡ c.args.own.rows = omega arith in
+    row-all (base ((goal.at.returns c).After-put)) _ _ (rw e at c.loop-i.invariant.1)

@@ -1,39 +1,52 @@
 -- The cells at i are stamped, i is not, and the vertices that bear the stamp are the row of the rules.
-use Prim.Native.Nat.{◌+◌}
-use native.Mathlib.Omega.{arith}
+use Rattle.std.proofs.Common.{◌≡◌, ◌∙◌, arith, rules, length}
 use lib.Dec.{ltb}
 use borrow.Author.Tests.{ltb-true, lt-ltb}
 use Rattle.rules.proofs.Tests.{all_weaker}
-use Rattle.points.specs.Points.{Met}
-use Rattle.relations.proofs.Placed.{start-rises, start-fit, rows-within, row-slice}
-use Rattle.points.proofs.PointRows.{around, point-groups, point-blocks, point-row-is, point-fresh}
+use Rattle.relations.specs.Words.{part}
+use Rattle.relations.proofs.Placed.{row-bounds, rows-within, start-row}
+use Rattle.points.proofs.PointRows.{point-row}
 use Rattle.points.proofs.stamped_row.Goals as goal
 
-pub meet_all-requires : goal.meet_all-requires
-meet_all-requires c =
-    let second = c in
-    let s = second in
-    let w = s.requires.fact_1.through in
-    let i = s.args.i.0 in record {
-      fact_1 = rw (second.start_of-from.ensures, second.start_of-to.ensures) (start-rises w.owned i (i + 1) (omega arith) (omega (arith, s.requires.fact_3)));
-      fact_2 = rw second.start_of-to.ensures (omega (arith, start-fit w.owned (i + 1) (omega (arith, s.requires.fact_3))));
-      fact_3 = rows-within w.backed _ (omega arith);
-      fact_4 = rw (second.start_of-from.ensures, second.start_of-to.ensures) (rw (row-slice _ _ _ i) (w.below i s.requires.fact_3));
-      fact_5 = λ x l. all_weaker (λ j. ltb j s.args.n) (λ j. ltb j 8192) (λ j e. lt-ltb j 8192 (omega (arith, ltb-true j s.args.n e, s.requires.fact_1.most))) _ (s.requires.fact_1.again x l);
+pub offset_bounds-words-from : goal.offset_bounds-words-from
+offset_bounds-words-from c =
+    omega (arith, c.start-from.ensures, c.start-to.ensures, row-bounds c.requires.around.through.owned c.args.i.0 c.requires.row)
+
+pub slice_bounds-meet_cells-count : goal.slice_bounds-meet_cells-count
+slice_bounds-meet_cells-count c =
+    omega (arith, c.start-from.ensures, c.start-to.ensures, row-bounds c.requires.around.through.owned c.args.i.0 c.requires.row)
+
+pub slice_bounds-meet_cells-start : goal.slice_bounds-meet_cells-start
+slice_bounds-meet_cells-start c =
+    omega (arith, c.start-from.ensures, c.start-to.ensures, row-bounds c.requires.around.through.owned c.args.i.0 c.requires.row)
+
+pub slice_bounds-meet_cells-end : goal.slice_bounds-meet_cells-end
+slice_bounds-meet_cells-end c =
+    omega (arith, c.start-from.ensures, c.start-to.ensures, row-bounds c.requires.around.through.owned c.args.i.0 c.requires.row)
+
+pub meet_cells-requires : goal.meet_cells-requires
+unfolding part
+meet_cells-requires c =
+    let a = c.args in
+    let q = c.requires in
+    let w = q.around.through in
+    record {
+      rows = rows-within w.backed _ (omega arith);
+      known = rw (c.start-from.ensures, c.start-to.ensures, start-row a.book.now a.own.at.0 a.own.rows a.i.0) (w.below a.i.0 q.row);
+      below = λ x l. all_weaker (λ j. ltb j a.own.rows) (λ j. ltb j 8192) (λ j e. lt-ltb j 8192 (omega (arith, ltb-true j a.own.rows e, q.around.most))) _ (q.around.again x l);
     }
 
-pub write_met-requires : goal.write_met-requires
-write_met-requires c =
-    let met-is : let a = c.args in Met a.met.now a.touched.now a.blocks.now (a.i.0 + 1) (around c.requires.fact_1 a.i.0 c.requires.fact_3) c.meet_all.new.met c.meet_all.new.touched c.meet_all.new.blocks =
-    let second = c in
-    rw (second.start_of-from.ensures, second.start_of-to.ensures, row-slice _ _ _ c.args.i.0) at c.meet_all.ensures in
-    let m = c in
-    let q = m.requires in record { fact_1 = omega (arith, q.fact_1.most); fact_2 = point-groups q.fact_1 m.args.i.0 q.fact_3 q.fact_2 (met-is); fact_3 = point-blocks q.fact_1 m.args.i.0 q.fact_3 q.fact_2 (met-is); fact_4 = q.fact_4 }
-
 pub returns : goal.returns
+unfolding part
 returns c =
-    let met-is : let a = c.args in Met a.met.now a.touched.now a.blocks.now (a.i.0 + 1) (around c.requires.fact_1 a.i.0 c.requires.fact_3) c.meet_all.new.met c.meet_all.new.touched c.meet_all.new.blocks =
-    let second = c in
-    rw (second.start_of-from.ensures, second.start_of-to.ensures, row-slice _ _ _ c.args.i.0) at c.meet_all.ensures in
-    let m = c in
-    let q = m.requires in record { written = rw (point-row-is q.fact_1 m.args.i.0 q.fact_3 q.fact_2 (met-is)) at c.write_met.ensures; fresh = point-fresh q.fact_1 m.args.i.0 q.fact_3 q.fact_2 (met-is) }
+    let a = c.args in
+    let q = c.requires in
+    let s = c.renew.new.self in
+    let every : length a.stamps.now.met ≡ 8192 = search rules in
+    let long : length s.met ≡ 8192 = rw c.renew.ensures.met every in
+    let met = rw (c.start-from.ensures, c.start-to.ensures, start-row a.book.now a.own.at.0 a.own.rows a.i.0) at c.meet_cells.ensures.met in
+    let stamp = c.leave_out.ensures.stamp ∙ c.meet_cells.ensures.stamp in
+    record {
+      written = rw (c.leave_out.ensures.met, met, stamp, point-row q.around a.i.0 q.row s.met s.stamp long s.some c.renew.ensures.clean) at c.write.ensures;
+      stamp = omega (arith, stamp, c.renew.ensures.stamp, q.stamp);
+    }

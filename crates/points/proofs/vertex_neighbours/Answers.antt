@@ -5,9 +5,9 @@ use Rattle.points.proofs.vertex_neighbours.Goals as goal
 
 pub points-requires : goal.points-requires
 points-requires c =
-    let a = c.requires.ready in let s = c.requires.stands in let t = c.requires.stands_2 in record { fact_1 = ready-points a s t; fact_2 = used-fits a }
+    let a = c.requires.ready in let s = c.requires.own in let t = c.requires.back in record { around = ready-points a s t; place = used-fits a }
 
 pub returns : goal.returns
 returns c =
-    let a = c.requires.ready in let s = c.requires.stands in let t = c.requires.stands_2 in
+    let a = c.requires.ready in let s = c.requires.own in let t = c.requires.back in
     rw (points-made a s t) at c.points.ensures

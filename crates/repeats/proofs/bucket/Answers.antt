@@ -1,30 +1,14 @@
--- The invariant: the words from j on are mixed.
-use mathlib.Core.Path.{◌≡◌}
-use Prim.Native.Nat.{◌-◌, ◌+◌}
-use native.Mathlib.Omega.{arith}
-use lib.ListN.{drop}
-use lib.Seq.{drop-length}
+-- The words are mixed from the last to the first.
+use mathlib.Core.Path.{◌≡◌, ◌∙◌}
+use borrow.Author.Rules.{rules}
+use Rattle.std.proofs.lemmas.Iterator.Consumers.{fold_from_yields_List}
+use Rattle.std.proofs.lemmas.Iterator.Adapters.{YieldsList-from_rev_slice}
 use Rattle.repeats.specs.Rows.{mixed, bucket_of}
-use Rattle.repeats.proofs.Mixed.{mixed-below, mixed-more}
+use Rattle.repeats.proofs.Mixed.{mix, mixed-is}
 use Rattle.repeats.proofs.bucket.Goals as goal
 
-pub loop-j-init : goal.loop-j-init
-unfolding mixed
-loop-j-init c = (omega arith, rw (drop-length c.args.row.now))
-
-pub overflow_cast-mix : goal.overflow_cast-mix
-overflow_cast-mix c = omega (arith, c.type_inv.row (c.loop-j.j - 1))
-
-pub overflow_add-mix : goal.overflow_add-mix
-overflow_add-mix c = let l = c.loop-j in omega (arith, c.type_inv.row (l.j - 1), mixed-below (drop l.j c.args.row.now))
-
-pub loop-j-preserved : goal.loop-j-preserved
-loop-j-preserved c =
-    let l = c.loop-j in
-    let w = c.args.row.now in
-    let e : l.j - 1 + 1 ≡ l.j = omega arith in
-    (omega arith, rw (mixed-more w (l.j - 1) (omega arith), e, ← l.invariant.1))
-
-pub returns : goal.returns
+pub returns-clause-value : goal.returns-clause-value
 unfolding bucket_of
-returns c = let e : c.loop-j.j ≡ 0 = omega arith in rw (c.loop-j.invariant.1, e)
+returns-clause-value c =
+    let all : c.fold-mixed.result ≡ mixed c.args.row.now = fold_from_yields_List _ mix 0 c.fold-mixed.result c.fold-mixed.ensures.ran (YieldsList-from_rev_slice c.args.row.now (search rules)) (λ a x b q k. search rules) ∙ mixed-is c.args.row.now in
+    rw all

@@ -1,37 +1,41 @@
--- The invariant: the words passed are equal.
-use mathlib.Core.Path.{◌≡◌, sym, ap}
-use mathlib.Core.Bool.{false}
-use mathlib.Core.List.{List}
+-- Rows of one length are the same where each pair of words is equal.
+use mathlib.Core.Path.{◌≡◌, refl, sym, ap, ◌∙◌}
+use mathlib.Core.Bool.{Bool, false, ◌&&◌}
+use mathlib.Core.List.{List, [], ◌∷◌}
 use mathlib.Core.Logic.{inl, inr}
 use Prim.Native.Nat.{ℕ}
 use native.Mathlib.Omega.{arith}
-use borrow.Author.Count.{below_more}
-use lib.ListN.{length, get_or}
-use lib.Seq.{ext_get_or}
+use borrow.Author.Rules.{rules}
+use borrow.Author.Tests.{tests, ne_eqb}
+use lib.ListN.{length}
+use lib.Dec.{eqb}
+use Rattle.std.specs.List.{list_all, zip}
+use Rattle.std.proofs.lemmas.Iterator.{YieldsList-from_slice, YieldsList-from_zip}
+use Rattle.std.proofs.lemmas.Iterator.Search.{all_from_yields_List}
 use Rattle.rules.specs.Lists.{same}
-use Rattle.rules.proofs.Tests.{cases, same-is, same_refl}
+use Rattle.rules.proofs.Tests.{cases, same-is}
 use Rattle.repeats.proofs.equal.Goals as goal
 
 -- rows that differ are not the same
 differ : (a b : List ℕ) → (a ≡ b → ⊥) → false ≡ same a b
 differ a b f = elim (cases (same a b)) [ inl e ↦ absurd (f (same-is a b e)) | inr e ↦ sym e ]
 
-pub returns-then-n-other : goal.returns-then-n-other
-returns-then-n-other c = differ _ _ (λ e. c.if-n-other.true (ap length e))
+abbrev pair_equal : ℕ × ℕ → Bool
+pair_equal p = eqb p.0 p.1
 
-pub loop-j-init : goal.loop-j-init
-loop-j-init c = (omega arith, λ k l. absurd (omega arith))
+pairs-same : (xs ys : List ℕ) → length xs ≡ length ys → list_all pair_equal (zip xs ys) ≡ same xs ys
+unfolding same
+pairs-same [] [] e = refl
+pairs-same [] (y ∷ ys) e = absurd (omega arith)
+pairs-same (x ∷ xs) [] e = absurd (omega arith)
+pairs-same (x ∷ xs) (y ∷ ys) e = ap (λ (b : Bool). eqb x y && b) (pairs-same xs ys (omega arith))
 
-pub returns-then-one-j : goal.returns-then-one-j
-returns-then-one-j c = differ _ _ (λ e. c.if-one-j.true (ap (λ (l : List ℕ). get_or l c.loop-j.j 0) e))
+pub returns-then-one-other : goal.returns-then-one-other
+returns-then-one-other c =
+    let xs = c.args.one.now in
+    let ys = c.args.other.now in
+    let f = all_from_yields_List pair_equal c.all.new.self _ c.all.result c.all.ensures.ran (YieldsList-from_zip (YieldsList-from_slice xs (search rules)) (YieldsList-from_slice ys (search rules))) (λ x b q k. search (rules, tests)) in
+    f ∙ pairs-same xs ys c.if-one-other.true
 
-pub loop-j-preserved : goal.loop-j-preserved
-loop-j-preserved c = (omega arith, below_more _ _ c.loop-j.invariant.1 c.if-one-j.false)
-
-pub returns : goal.returns
-returns c =
-    let a = c.args in
-    let x = a.one.now in
-    let y = a.other.now in
-    let e : x ≡ y = ext_get_or 0 x y c.if-n-other.false (λ i l. c.loop-j.invariant.1 i (omega arith)) in
-    rw e (sym (same_refl y))
+pub returns-else-one-other : goal.returns-else-one-other
+returns-else-one-other c = rw (ne_eqb (length c.args.one.now) (length c.args.other.now) c.if-one-other.false) (differ _ _ (λ e. c.if-one-other.false (ap length e)))

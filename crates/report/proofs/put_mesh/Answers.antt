@@ -3,4 +3,4 @@ use Rattle.report.proofs.Texts.{put-mesh-line}
 use Rattle.report.proofs.put_mesh.Goals as goal
 
 pub returns : goal.returns
-returns c = put-mesh-line c.args.book.now c.dim.result c.dim.ensures c.put_text-word.ensures c.put_field-top.ensures c.put_counts-counts.ensures c.put_byte.ensures
+returns c = put-mesh-line c.args.book.now c.dim.result c.dim.ensures c.put_text.ensures c.put_field.ensures c.put_counts.ensures c.put_byte.ensures

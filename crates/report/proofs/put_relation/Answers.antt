@@ -6,4 +6,4 @@ pub returns : goal.returns
 returns c =
     let a = c.args in
     put-relation-line a.book.now a.k c.count.result c.total.result c.count.ensures c.total.ensures
-    c.put_number-from.ensures c.put_field-to.ensures c.put_field-rows.ensures c.put_field-indices.ensures c.put_byte.ensures
+    c.put_number.ensures c.put_field.ensures c.put_field-2.ensures c.put_field-3.ensures c.put_byte.ensures

@@ -1,29 +1,30 @@
--- The invariant: none of the indices passed shows a fault.
-use mathlib.Core.Path.{sym, ◌∙◌}
+-- The places of the row are searched for the first at fault.
+use mathlib.Core.Path.{◌≡◌, sym, ◌∙◌}
+use mathlib.Core.Bool.{Bool, true, false}
+use Prim.Native.Nat.{ℕ, ◌≤◌, ◌<◌}
 use native.Mathlib.Omega.{arith}
+use borrow.Author.Rules.{rules}
+use borrow.Author.Tests.{tests}
 use lib.ListN.{length}
-use borrow.Author.Count.{below_more}
-use Rattle.rules.proofs.Searched.{least-is}
+use Rattle.std.specs.Option.{MatchOption, unwrap_or}
+use Rattle.std.specs.Prelude.{Option, Some, None}
+use Rattle.std.proofs.lemmas.Iterator.{first_from_Range}
+use Rattle.rules.specs.Lists.{up_to, first_at}
 use Rattle.rules.specs.Broken.{word_bad}
+use Rattle.rules.proofs.Searched.{least-is}
 use Rattle.rows.proofs.bad_index.Goals as goal
 
-pub loop-i-init : goal.loop-i-init
-loop-i-init c = (omega arith, λ q l. absurd (omega arith))
-
-pub word_bad-requires : goal.word_bad-requires
-word_bad-requires c = c.loop-i-test.true
-
-pub returns-then-word_bad : goal.returns-then-word_bad
-returns-then-word_bad c =
-    let a = c.args in
-    let l = c.loop-i in
-    sym (least-is (word_bad a.bound a.row.now) (length a.row.now) l.i l.invariant.0 l.invariant.1 (λ m. sym c.word_bad.ensures ∙ c.if-word_bad.true))
-
-pub loop-i-preserved : goal.loop-i-preserved
-loop-i-preserved c = (omega arith, below_more _ _ c.loop-i.invariant.1 (sym c.word_bad.ensures ∙ c.if-word_bad.false))
+-- what `find` gives of the numbers from 0 to n, or n
+found-or : (p : ℕ → Bool) (n : ℕ) (r : Option ℕ)
+    → MatchOption r ((k : ℕ) → 0 ≤ k → k < n → p k ≡ false) (λ i. (0 ≤ i) × (i < n) × (p i ≡ true) × ((k : ℕ) → 0 ≤ k → k < i → p k ≡ false))
+    → unwrap_or r n ≡ first_at p (up_to n)
+found-or p n None b = sym (least-is p n n (omega arith) (λ j l. b j (omega arith) l) (λ l. absurd (omega arith)))
+found-or p n (Some i) (low, l, t, b) = sym (least-is p n i (omega arith) (λ j l. b j (omega arith) l) (λ l. t))
 
 pub returns : goal.returns
 returns c =
     let a = c.args in
-    let l = c.loop-i in
-    sym (least-is (word_bad a.bound a.row.now) (length a.row.now) l.i l.invariant.0 l.invariant.1 (λ m. absurd (omega arith)))
+    let p = word_bad a.bound a.row.now in
+    c.unwrap_or.ensures
+    ∙ found-or p (length a.row.now) c.find.result
+    (first_from_Range _ _ _ c.find.result (λ i. p i ≡ true) (λ i. p i ≡ false) c.find.ensures.ran (λ x q h. search (rules, tests)) (λ x q h. search (rules, tests)))

@@ -1,53 +1,40 @@
--- The invariant: the free words passed are 0.
+-- The invariant: the first free word that is not 0 lies behind the runs passed.
 use mathlib.Core.Path.{◌≡◌, ap, ◌∙◌}
 use mathlib.Core.Bool.{true, false}
-use Prim.Native.Nat.{ℕ, ◌+◌, ◌-◌}
 use native.Mathlib.Omega.{arith}
-use lib.ListN.{take, drop, length-take}
+use lib.ListN.{length, length-append}
 use lib.Dec.{eqb}
+use Rattle.std.specs.Slice.Iter.{chunks_rest}
 use Rattle.rules.specs.Lists.{all_of, first_at}
-use Rattle.book.proofs.Flags.{off, on}
 use Rattle.rules.proofs.Searched.{first-most}
-use Rattle.rows.proofs.Free.{set_word, run_more, run-found, runs-all}
+use Rattle.book.proofs.Flags.{off, on}
+use Rattle.rows.proofs.Free.{set_word, run_passed, run-found}
 use Rattle.rows.proofs.first_free.Goals as goal
 
-pub overflow_cast-used : goal.overflow_cast-used
-overflow_cast-used c = omega (arith, c.word-used.type_inv)
-
-pub loop-at-init : goal.loop-at-init
-loop-at-init c = (omega arith, λ q a b. absurd (omega arith))
-
-pub overflow_sub-result : goal.overflow_sub-result
-overflow_sub-result c = omega (arith, c.loop-at.invariant.0)
+pub loop-run-preserved : goal.loop-run-preserved
+loop-run-preserved c =
+    let run = c.in-Some.run'.now in
+    let left = chunks_rest c.next.new.self in
+    let s = c.in-Some.ensures.steps in
+    let i = c.loop-run.invariant in
+    let z : all_of (eqb 0) run ≡ true = on c.zeros.ensures c.if-not-zeros.false in
+    (omega (arith, s.0, i.0), (tt, (omega (arith, i.1.1.0, ap length s.1.0 ∙ length-append run left), omega (arith, i.1.1.1, ap (first_at set_word) s.1.0 ∙ run_passed run left z))))
 
 pub overflow_add-result : goal.overflow_add-result
 overflow_add-result c =
-    let ws = c.args.book.now in
-    let l = c.loop-at in
-    let e : c.first_set.result ≡ first_at set_word (take 256 (drop l.at ws)) = c.first_set.ensures ∙ ap (first_at set_word) c.part-run.ensures.words in
-    omega (arith, first-most set_word 0 (take 256 (drop l.at ws)), length-take 256 (drop l.at ws), c.loop-at-test.true)
+    let run = c.in-Some.run'.now in
+    let s = c.in-Some.ensures.steps in
+    omega (arith, c.loop-run.invariant.1.1.0, c.first_set.ensures, first-most set_word 0 run, ap length s.1.0 ∙ length-append run (chunks_rest c.next.new.self))
 
 pub returns-then-not-zeros : goal.returns-then-not-zeros
 returns-then-not-zeros c =
-    let ws = c.args.book.now in
-    let l = c.loop-at in
-    let z : all_of (eqb 0) (take 256 (drop l.at ws)) ≡ false = off (c.zeros.ensures ∙ ap (all_of (eqb 0)) c.part-run.ensures.words) c.if-not-zeros.true in
-    let e : c.first_set.result ≡ first_at set_word (take 256 (drop l.at ws)) = c.first_set.ensures ∙ ap (first_at set_word) c.part-run.ensures.words in
-    ap (λ (n : ℕ). l.at - c.word-used.result + n) e ∙ run-found ws c.word-used.result l.at l.invariant.0 l.invariant.1 z ∙ rw c.word-used.ensures
-
-pub loop-at-preserved : goal.loop-at-preserved
-loop-at-preserved c =
-    let ws = c.args.book.now in
-    let l = c.loop-at in
-    let z : all_of (eqb 0) (take 256 (drop l.at ws)) ≡ true = on (c.zeros.ensures ∙ ap (all_of (eqb 0)) c.part-run.ensures.words) c.if-not-zeros.false in
-    (omega (arith, l.invariant.0), run_more ws c.word-used.result l.at l.invariant.0 l.invariant.1 z)
-
-pub overflow_sub-result-2 : goal.overflow_sub-result-2
-overflow_sub-result-2 c = omega (arith, c.requires, c.word-used.ensures)
+    let run = c.in-Some.run'.now in
+    let left = chunks_rest c.next.new.self in
+    let s = c.in-Some.ensures.steps in
+    let z : all_of (eqb 0) run ≡ false = off c.zeros.ensures c.if-not-zeros.true in
+    rw (← c.word-used.ensures) (omega (arith, c.loop-run.invariant.1.1.1, c.first_set.ensures, ap (first_at set_word) s.1.0 ∙ run-found run left z))
 
 pub returns : goal.returns
 returns c =
-    let ws = c.args.book.now in
-    let l = c.loop-at in
-    let w = c.word-used.ensures in
-    runs-all ws c.word-used.result l.at l.invariant.0 l.invariant.1 c.loop-at-test.false (omega (arith, c.requires)) ∙ rw w
+    let left = chunks_rest c.loop-run.run-iterator in
+    rw (← c.word-used.ensures) (omega (arith, c.loop-run.invariant.1.1.1, c.in-None.ensures.steps.1.0, first-most set_word 0 left))

@@ -1,13 +1,14 @@
--- The invariant: the free words passed are 0.
+-- The invariant: the first free word that is not 0 lies behind the runs passed.
 use mathlib.Core.Path.{◌≡◌}
-use mathlib.Core.Bool.{true}
-use Prim.Native.Nat.{ℕ, ◌-◌, ◌≤◌, ◌<◌}
-use lib.ListN.{length, get_or}
-use lib.Dec.{eqb}
+use Prim.Native.Nat.{◌+◌, ◌-◌}
+use lib.ListN.{length, drop}
+use Rattle.std.specs.Slice.Iter.{chunks_rest}
+use Rattle.rules.specs.Lists.{first_at}
+use Rattle.rows.proofs.Free.{set_word}
 use Rattle.rows.proofs.first_free.Given as goal
 
-abbrev pub invariant-loop-at : goal.invariant-loop-at
-invariant-loop-at l = (l.used ≤ l.at) × ((q : ℕ) → l.used ≤ q → q < l.at → q < length l.book → eqb 0 (get_or l.book q 0) ≡ true)
-
-abbrev pub decreases-loop-at : goal.decreases-loop-at
-decreases-loop-at l = length l.book - l.at
+abbrev pub invariant-loop-run : goal.invariant-loop-run
+invariant-loop-run l =
+    (goal.iterator-loop-run).can_next l.run-iterator
+    × ((goal.iterator-loop-run).is_finite l.run-iterator
+    × ((l.passed + length (chunks_rest l.run-iterator) ≡ length l.book - l.used) × (l.passed + first_at set_word (chunks_rest l.run-iterator) ≡ first_at set_word (drop l.used l.book))))

@@ -1,27 +1,16 @@
--- The invariant: the words passed are 0.
-use mathlib.Core.Path.{sym}
-use native.Mathlib.Omega.{arith}
-use mathlib.Core.Bool.{not}
-use lib.Dec.{eqb}
-use borrow.Author.Tests.{eq-eqb, ne_eqb}
-use borrow.Author.Count.{below_more}
-use Rattle.rules.proofs.Searched.{first-is}
+-- The place of the first word that is not 0.
+use mathlib.Core.Path.{ap, ◌∙◌}
+use borrow.Author.Rules.{rules}
+use borrow.Author.Tests.{tests}
+use lib.ListN.{length}
+use Rattle.std.specs.Option.{unwrap_or}
+use Rattle.std.proofs.lemmas.Iterator.{YieldsList-from_slice}
+use Rattle.std.proofs.lemmas.Iterator.Search.{position_from_yields_List}
+use Rattle.rows.proofs.Free.{set_word, place-or-length}
 use Rattle.rows.proofs.first_set.Goals as goal
-
-pub loop-i-init : goal.loop-i-init
-loop-i-init c = (omega arith, λ q l. absurd (omega arith))
-
-pub returns-then-words-i-ne0 : goal.returns-then-words-i-ne0
-returns-then-words-i-ne0 c =
-    let r = c.args.words.now in
-    let l = c.loop-i in
-    sym (first-is (λ w. not (eqb 0 w)) 0 r l.i l.invariant.0 l.invariant.1 (λ m. rw (ne_eqb 0 _ (λ e. c.if-words-i-ne0.true (sym e)))))
-
-pub loop-i-preserved : goal.loop-i-preserved
-loop-i-preserved c = (omega arith, below_more _ _ c.loop-i.invariant.1 (rw (eq-eqb 0 _ (sym c.if-words-i-ne0.false))))
 
 pub returns : goal.returns
 returns c =
-    let r = c.args.words.now in
-    let l = c.loop-i in
-    sym (first-is (λ w. not (eqb 0 w)) 0 r l.i l.invariant.0 l.invariant.1 (λ m. absurd (omega arith)))
+    let ws = c.args.words.now in
+    let f = position_from_yields_List set_word _ _ c.position.result c.position.ensures.ran (YieldsList-from_slice ws (search rules)) (λ x b q k. search (rules, tests)) in
+    c.unwrap_or.ensures ∙ ap (λ o. unwrap_or o (length ws)) f ∙ place-or-length set_word ws

@@ -52,7 +52,7 @@ returns c =
     let n = c.count in
     record {
       words =
-          c.part.ensures.words ∙ ap (λ (m : ℕ). take m (drop (p.result.0 + n.result + 1 + f.result) a.book.now)) c.above.ensures
+          c.part.ensures.words ∙ ap (λ (m : ℕ). take m (drop (p.result.0 + n.result + 1 + f.result) a.book.now)) c.saturating_sub.ensures
           ∙ row_words a.book.now a.k p.result.0 p.ensures a.i n.result f.result n.ensures f.ensures l.result l.ensures;
       block = c.part.ensures.block;
       start =

@@ -1,39 +1,47 @@
--- The invariant: each word passed is above the one before it, and last is the newest of them. Of words that ascend the last is the greatest, so it alone is held against the bound.
-use mathlib.Core.Path.{◌≡◌, sym, refl}
-use mathlib.Core.Bool.{true}
-use Prim.Native.Nat.{suc, ◌+◌, ◌-◌}
+-- Each word is above the one before it. Of words that ascend the last is the greatest, so it alone is held against the bound.
+use mathlib.Core.Path.{◌≡◌, refl, sym, ◌∙◌}
+use mathlib.Core.Bool.{Bool, true, false, ◌&&◌}
+use mathlib.Core.List.{List}
+use Prim.Native.Nat.{ℕ, ◌-◌, ◌≤◌, ◌<◌}
+use native.Mathlib.Numerals.{add-one}
 use native.Mathlib.Omega.{arith}
-use borrow.Author.Count.{below_more}
+use borrow.Author.Rules.{rules}
+use borrow.Author.Tests.{tests, ltb-true, ltb-false}
+use lib.Dec.{ltb}
 use lib.ListN.{length}
-use Rattle.rules.specs.Lists.{ascends}
+use denote.Ref.{Bor}
+use Rattle.std.specs.List.{IsAllAdjacentAnswer, HoldsAt}
+use Rattle.std.specs.Option.{MatchOption}
+use Rattle.std.specs.Prelude.{Option, Some, None}
+use Rattle.std.proofs.lemmas.Fn.{always_returns_same}
+use Rattle.rules.specs.Lists.{ascends, all_of}
 use Rattle.rules.proofs.Steps.{ascends-are, ascends-not, last-decides, no_words}
 use Rattle.rows.proofs.row_ascends.Goals as goal
 
-pub returns-then-row-eq0 : goal.returns-then-row-eq0
-returns-then-row-eq0 c =
-    let a = c.args in
-    sym (no_words a.bound a.row.now c.if-row-eq0.true)
+-- what a test of all neighbours gives
+sorted-is : (ws : List ℕ) (r : Bool) → IsAllAdjacentAnswer (λ x y b. b ≡ ltb x y) ws r → r ≡ ascends ws
+sorted-is ws true s = sym (ascends-are ws (λ i l. ltb-true _ _ (sym (rw add-one at (s i 0 (omega arith))))))
+sorted-is ws false (k, l, f) = sym (ascends-not ws k (omega arith) (ltb-false _ _ (sym (rw add-one at (f 0)))))
 
-pub loop-i-init : goal.loop-i-init
-loop-i-init c = ((omega arith, omega arith), (refl, λ k l p. absurd (omega arith)))
+-- where they ascend, the last decides
+by_last : (ws : List ℕ) (bound : ℕ) (o : Option (Bor ℕ)) (r : Bool) → ascends ws ≡ true
+    → MatchOption o (length ws ≤ 0) (λ x. (0 < length ws) × HoldsAt (λ y. x.now ≡ y) ws (length ws - 1))
+    → MatchOption o (r ≡ true) (λ x. r ≡ ltb x.now bound)
+    → r ≡ (ascends ws && all_of (λ j. ltb j bound) ws)
+by_last ws bound None r a l m = m ∙ sym (no_words bound ws (omega arith))
+by_last ws bound (Some x) r a (l, e) m = rw (a, last-decides bound ws (length ws - 1) (omega arith) a, ← e 0) m
 
-pub returns-then-x-last : goal.returns-then-x-last
-returns-then-x-last c =
+pub returns-then-is_sorted_by : goal.returns-then-is_sorted_by
+returns-then-is_sorted_by c =
     let ws = c.args.row.now in
-    let turn = c.loop-i in
-    let e : suc (turn.i - 1) ≡ turn.i = omega arith in
-    rw (ascends-not ws (turn.i - 1) (rw e (omega arith)) (rw e (omega (arith, turn.invariant.1.0, c.if-x-last.true))))
+    let s : IsAllAdjacentAnswer (λ x y b. b ≡ ltb x y) ws c.is_sorted_by.result = c.is_sorted_by.ensures.cases ltb (always_returns_same _ (λ a r. r ≡ ltb a.0.now a.1.0.now) _ (λ a r q k. search (rules, tests))) in
+    let a : ascends ws ≡ true = sym (sorted-is ws c.is_sorted_by.result s) ∙ c.if-is_sorted_by.true in
+    let m : MatchOption c.last.result (c.is_none_or.result ≡ true) (λ x. c.is_none_or.result ≡ ltb x.now c.args.bound) = search (rules, tests) in
+    by_last ws c.args.bound c.last.result c.is_none_or.result a c.last.ensures.item.3 m
 
-pub loop-i-preserved : goal.loop-i-preserved
-loop-i-preserved c =
-    let turn = c.loop-i in
-    let e : turn.i + 1 - 1 ≡ turn.i = omega arith in
-    ((omega arith, omega arith), (rw e refl, below_more _ _ turn.invariant.1.1 (λ p. omega (arith, turn.invariant.1.0, c.if-x-last.false))))
-
-pub returns : goal.returns
-returns c =
-    let a = c.args in
-    let turn = c.loop-i in
-    let all : turn.i ≡ length a.row.now = omega arith in
-    let u : ascends a.row.now ≡ true = ascends-are a.row.now (λ i l. let e : suc i - 1 ≡ i = omega arith in rw e at (turn.invariant.1.1 (suc i) (omega arith) (omega arith))) in
-    rw (u, turn.invariant.1.0) (sym (last-decides a.bound a.row.now (turn.i - 1) (omega arith) u))
+pub returns-else-is_sorted_by : goal.returns-else-is_sorted_by
+returns-else-is_sorted_by c =
+    let s : IsAllAdjacentAnswer (λ x y b. b ≡ ltb x y) c.args.row.now c.is_sorted_by.result = c.is_sorted_by.ensures.cases ltb (always_returns_same _ (λ a r. r ≡ ltb a.0.now a.1.0.now) _ (λ a r q k. search (rules, tests))) in
+    let e = sorted-is c.args.row.now c.is_sorted_by.result s in
+    let f : ascends c.args.row.now ≡ false = sym e ∙ c.if-is_sorted_by.false in
+    rw (f, c.if-is_sorted_by.false) refl

@@ -1,19 +1,21 @@
 -- The rows are right exactly where no place is found.
-use mathlib.Core.Path.{sym, ap, ◌∙◌}
+use mathlib.Core.Path.{◌≡◌, sym}
+use mathlib.Core.Bool.{Bool, true, false, not, true≢false}
+use mathlib.Core.List.{List}
+use Prim.Native.Nat.{ℕ}
+use Rattle.std.specs.Prelude.{Option, Some, None, is_some}
+use Rattle.rules.specs.Book.{frame_right, rows_right}
+use Rattle.rules.specs.Broken.{broken_at}
 use Rattle.rules.proofs.Told.{none_right, some-wrong}
+use Rattle.kinds.specs.declared.refusals.Broken.{Broken}
 use Rattle.rows.specs.Answers.{rows_place}
 use Rattle.rows.proofs.rows_right.Goals as goal
 
-pub returns-in-Right : goal.returns-in-Right
-unfolding rows_place
-returns-in-Right c =
-    let b = c in
-    let s = b in
-    sym (none_right s.args.book.now s.requires (sym b.broken_at.ensures ∙ ap rows_place c.in-Right.is))
+decides : (ws : List ℕ) (f : frame_right ws ≡ true) (o : Option Broken) (b : Bool) → is_some o ≡ not b → rows_place o ≡ broken_at ws → b ≡ rows_right ws
+decides ws f None true n e = sym (none_right ws f (sym e))
+decides ws f (Some p) false n e = sym (some-wrong ws f _ (sym e))
+decides ws f None false n e = absurd (true≢false (sym n))
+decides ws f (Some p) true n e = absurd (true≢false n)
 
-pub returns-in-BrokenAt : goal.returns-in-BrokenAt
-unfolding rows_place
-returns-in-BrokenAt c =
-    let b = c in
-    let s = b in
-    sym (some-wrong s.args.book.now s.requires _ (sym b.broken_at.ensures ∙ ap rows_place c.in-BrokenAt.is))
+pub returns : goal.returns
+returns c = decides c.args.book.now c.requires c.broken_at.result c.is_none.result c.is_none.ensures c.broken_at.ensures

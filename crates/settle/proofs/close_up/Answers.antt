@@ -1,17 +1,6 @@
 -- What is behind moves down, and zeros stand where it stood last.
-use native.Mathlib.Omega.{arith}
 use Rattle.settle.proofs.Lowering.{closed-up}
 use Rattle.settle.proofs.close_up.Goals as goal
-
-pub move_down-end-requires : goal.move_down-end-requires
-move_down-end-requires c =
-    let p = c.requires in
-    (record { order = omega (arith, p.0.inside); inside = omega (arith, p.1) }, omega (arith, p.0.order))
-
-pub zero-requires : goal.zero-requires
-zero-requires c =
-    let m = c in
-    rw m.move_down-end.auto.book m.requires.1
 
 pub returns : goal.returns
 returns c =

@@ -21,10 +21,7 @@ at_place : (ws : List ℕ) (at : List Place) → numbers at ≡ map (place ws) (
 at_place ws at e k l = sym (number_at at k) ∙ ap (λ (a : List ℕ). get_or a k 0) e ∙ get_d_rows (place ws) 17 k 0 l
 
 pub loop-k-init : goal.loop-k-init
-loop-k-init c = (c.places_of-places.ensures, (omega arith, keeping_none _ _ c.requires))
-
-pub overflow_cast-k : goal.overflow_cast-k
-overflow_cast-k c = record { fits = omega arith }
+loop-k-init c = (c.places_of-places.ensures, keeping_none _ _ c.requires)
 
 pub move_down-to-requires : goal.move_down-to-requires
 move_down-to-requires c = let l = c.loop-k in
@@ -35,31 +32,24 @@ move_down-to-requires c = let l = c.loop-k in
     let f = framed _ s.requires.frame in
     let o = place-rises s.args.book.now l.k (l.k + 1) (omega arith) in
     let e = place-rises s.args.book.now (l.k + 1) 16 (omega arith) in
-    (record { order = omega arith; inside = omega (arith, f.ends, f.fits, l.invariant.1.1.size) }, omega (arith, l.invariant.1.1.low))
+    (record { order = omega arith; inside = omega (arith, f.ends, f.fits, l.invariant.1.size) }, omega (arith, l.invariant.1.low))
 
 pub loop-k-preserved : goal.loop-k-preserved
 loop-k-preserved c = let l = c.loop-k in
-    let s = c in
     let t = c.loop-k-test.true in
     let p = c.named.ensures in
     let a = at_place _ _ l.invariant.0 l.k (omega arith) in
     let b = at_place _ _ l.invariant.0 (l.k + 1) (omega arith) in (
       l.invariant.0,
-      (
-        omega arith,
-        elim c.if-named.branch [
-          | then-named w ↦
-              rw (w.book-is, w.to-is, w.move_down-to.ensures.words, w.move_down-to.ensures.place, a, b, add-one l.k)
-              (keeping-more _ _ s.requires l.k _ _ l.invariant.1.1 (omega arith) (sym p ∙ w.if-named.true))
-          | else-named w ↦ rw (w.book-is, w.to-is, add-one l.k) (keeping-skip _ _ s.requires l.k _ _ l.invariant.1.1 (omega arith) (sym p ∙ w.if-named.false))
-        ],
-      ),
+      elim c.if-named.branch [
+        | then-named w ↦
+            rw (w.book-is, w.to-is, w.move_down-to.ensures.words, w.move_down-to.ensures.place, a, b, add-one l.k)
+            (keeping-more _ _ c.requires l.k _ _ l.invariant.1 (omega arith) (sym p ∙ w.if-named.true))
+        | else-named w ↦ rw (w.book-is, w.to-is, add-one l.k) (keeping-skip _ _ c.requires l.k _ _ l.invariant.1 (omega arith) (sym p ∙ w.if-named.false))
+      ],
     )
-
-pub shape_of-book : goal.shape_of-book
-shape_of-book c = c.loop-k.invariant.1.1.size
 
 pub returns : goal.returns
 returns c = let l = c.loop-k in
-    let e : l.k ≡ 16 = omega (arith, l.invariant.1.0, c.loop-k-test.false) in
-    keeping_all _ _ c.requires _ _ (rw e at l.invariant.1.1)
+    let e : l.k ≡ 16 = omega arith in
+    keeping_all _ _ c.requires _ _ (rw e at l.invariant.1)

@@ -5,21 +5,26 @@ use mathlib.Core.List.{List, [], ◌∷◌}
 use Prim.Native.Nat.{ℕ}
 use native.Mathlib.Omega.{arith}
 use lib.ListN.{length, get_or, drop}
-use Rattle.rules.specs.Book.{dim, key, held, frame_right, rows_right}
-use Rattle.rules.specs.Sheet.{Flat}
-use Rattle.rules.proofs.Told.{none_right, some-wrong, told-eleven}
+use Rattle.rules.specs.Book.{dim, key, held, frame_right, rows_right, Right}
+use Rattle.rules.specs.Broken.{broken_at, told}
+use Rattle.rules.specs.Sheet.{Flat, sheet_answer}
+use Rattle.right.specs.Checks.{right_number}
+use borrow.Author.Tests.{ne_eqb}
 use Rattle.rules.proofs.Tests.{left, right}
 use Rattle.book.proofs.Flags.{off, on}
-use Rattle.rows.specs.Answers.{rows_place}
-use Rattle.sheets.specs.declared.answers.NotSheet.{NotSheet}
-use Rattle.sheets.specs.declared.answers.NotSheet.TheVariants as whys
-use Rattle.sheets.specs.Answers.{by_entities, why_answer, tested_answer, sheeted_answer, sheeted_place, sheeted_given}
-use Rattle.sheets.proofs.Answered.{ten, eleven, other-dimension, fifteen, by-entities, is-sheet, number_is, refused, no_place}
+use Rattle.kinds.specs.declared.refusals.NotSheet.{NotSheet}
+use Rattle.kinds.specs.declared.refusals.NotSheet.TheVariants as whys
+use Rattle.kinds.specs.declared.refusals.Refusal.TheVariants as refusals
+use Rattle.kinds.specs.Refusals.{why_answer, answer_why, answer_place, given}
+use Rattle.kinds.proofs.Determined.{handed-on, refused-accepted}
+use Rattle.right.proofs.Checks.{without-reason, either}
+use Rattle.sheets.specs.Answers.{by_entities, rim_given}
+use Rattle.sheets.proofs.Answered.{ten, eleven, other-dimension, fifteen, by-entities, is-sheet, number_is, left_alone, refused}
+use Rattle.sheets.proofs.sheet.Goals.{After-dim, After-needs_held, After-tested}
 use Rattle.sheets.proofs.sheet.Goals as goal
 
 -- why a book is not a sheet comes with 28
 why-number : (w : NotSheet) → why_answer w ≡ 28 ∷ drop 1 (why_answer w)
-unfolding why_answer
 why-number whys.Dimension = refl
 why-number (whys.Vertex v) = refl
 why-number (whys.Edge k) = refl
@@ -41,71 +46,69 @@ flat-of ws framed rowed two h =
       cells = right (held ws (key 1 0) && held ws (key 2 1)) (held ws (key 1 2)) h;
     }
 
-pub returns-then-not-frame_right : goal.returns-then-not-frame_right
-unfolding sheeted_answer sheeted_place sheeted_given
-returns-then-not-frame_right c =
-    let h = ten c.args.book.now (length c.args.across.now) (length c.args.rim.now) (length c.args.rim_vertices.now) (length c.args.rim_edges.now) (off c.frame_right.ensures c.if-not-frame_right.true) in
-    let r = refused c.args.book.now c.args.across.now c.args.rim.now c.args.rim_vertices.now c.args.rim_edges.now 10 [] h refl in
-    record { answer = h; place = no_place c.args.book.now c.args.across.now c.args.rim.now c.args.rim_vertices.now c.args.rim_edges.now 10 [] h refl; given = r.0; across = r.1.0; bytes = r.1.1.0; vertices = r.1.1.1.0; edges = r.1.1.1.1 }
+right-book : (c : After-dim) → Right c.args.book.now
+right-book c = rw c.in_ok-right.ensures.words at c.in_ok-right.ensures.right
 
-pub broken_at-requires : goal.broken_at-requires
-broken_at-requires c = on c.frame_right.ensures c.if-not-frame_right.false
+two : (c : After-needs_held) → dim c.args.book.now ≡ 2
+two c = sym (ap dim c.in_ok-right.ensures.words) ∙ sym c.dim.ensures.dim ∙ c.if-dim-ne2.false
 
-pub returns-in-BrokenAt : goal.returns-in-BrokenAt
-unfolding sheeted_answer sheeted_place sheeted_given rows_place
-returns-in-BrokenAt c =
-    let framed = on c.frame_right.ensures c.if-not-frame_right.false in
-    let e = sym (ap rows_place c.in-BrokenAt.is) ∙ c.broken_at.ensures in
-    let h = eleven c.args.book.now (length c.args.across.now) (length c.args.rim.now) (length c.args.rim_vertices.now) (length c.args.rim_edges.now) framed (some-wrong c.args.book.now framed _ (sym e)) in
-    let r = refused c.args.book.now c.args.across.now c.args.rim.now c.args.rim_vertices.now c.args.rim_edges.now 11 [] h refl in
-    record { answer = h; place = e ∙ told-eleven _ _ (sym (number_is c.args.book.now c.args.across.now c.args.rim.now c.args.rim_vertices.now c.args.rim_edges.now 11 [] h)); given = r.0; across = r.1.0; bytes = r.1.1.0; vertices = r.1.1.1.0; edges = r.1.1.1.1 }
+held-is : (c : After-needs_held) → c.needs_held.result ≡ (held c.args.book.now (key 1 0) && held c.args.book.now (key 2 1) && held c.args.book.now (key 1 2))
+held-is c = rw c.in_ok-right.ensures.words at c.needs_held.ensures
+
+flat : (c : After-tested) → Flat c.args.book.now
+flat c =
+    let r : Right c.args.book.now = rw c.in_ok-right.ensures.words at c.in_ok-right.ensures.right in
+    flat-of c.args.book.now r.frame r.rows (sym (ap dim c.in_ok-right.ensures.words) ∙ sym c.dim.ensures.dim ∙ c.if-dim-ne2.false) (on (rw c.in_ok-right.ensures.words at c.needs_held.ensures) c.if-not-needs_held.false)
+
+pub returns-in_err-right : goal.returns-in_err-right
+returns-in_err-right c =
+    let ws = c.args.book.now in
+    let h = handed-on c.from_residual.result c.in_err-right.field-0.0 c.from_residual.ensures.1 in
+    let n = c.in_err-right.ensures.number in
+    let z : right_number ws ≡ 0 → ⊥ = λ e. refused-accepted _ (n ∙ e) in
+    let said = sheet_answer ws (length c.args.across.now) (length c.args.rim.now) (length c.args.rim_vertices.now) (length c.args.rim_edges.now) in
+    let a : right_number ws ∷ [] ≡ said = either ws (λ k. k ∷ [] ≡ said) z (ten ws _ _ _ _) (eleven ws _ _ _ _) in
+    let r = left_alone c.args.book.now c.args.across.now c.args.rim.now c.args.rim_vertices.now c.args.rim_edges.now (right_number ws) [] a (ne_eqb _ 0 z) in
+    record {
+      answer = ap answer_why h ∙ without-reason ws _ n ∙ a;
+      place = ap answer_place h ∙ c.in_err-right.ensures.place ∙ ap (λ (k : ℕ). told k (broken_at ws)) (sym (number_is c.args.book.now c.args.across.now c.args.rim.now c.args.rim_vertices.now c.args.rim_edges.now (right_number ws) [] a));
+      given = ap (given [] rim_given) h ∙ r.given;
+      across = r.across;
+      bytes = r.bytes;
+      vertices = r.vertices;
+      edges = r.edges;
+    }
 
 pub returns-then-dim-ne2 : goal.returns-then-dim-ne2
-unfolding sheeted_answer sheeted_place sheeted_given why_answer rows_place
 returns-then-dim-ne2 c =
-    let framed = on c.frame_right.ensures c.if-not-frame_right.false in
-    let rowed = none_right c.args.book.now framed (sym c.broken_at.ensures ∙ ap rows_place c.in_default.is) in
-    let h = other-dimension c.args.book.now (length c.args.across.now) (length c.args.rim.now) (length c.args.rim_vertices.now) (length c.args.rim_edges.now) framed rowed (λ e. c.if-dim-ne2.true (c.dim.ensures ∙ e)) in
-    let r = refused c.args.book.now c.args.across.now c.args.rim.now c.args.rim_vertices.now c.args.rim_edges.now 28 (1 ∷ []) h refl in
-    record { answer = h; place = no_place c.args.book.now c.args.across.now c.args.rim.now c.args.rim_vertices.now c.args.rim_edges.now 28 (1 ∷ []) h refl; given = r.0; across = r.1.0; bytes = r.1.1.0; vertices = r.1.1.1.0; edges = r.1.1.1.1 }
+    let r = right-book (goal.at.returns-then-dim-ne2 c).After-dim in
+    let h = other-dimension c.args.book.now (length c.args.across.now) (length c.args.rim.now) (length c.args.rim_vertices.now) (length c.args.rim_edges.now) r.frame r.rows (λ e. c.if-dim-ne2.true (c.dim.ensures.dim ∙ ap dim c.in_ok-right.ensures.words ∙ e)) in
+    refused c.args.book.now c.args.across.now c.args.rim.now c.args.rim_vertices.now c.args.rim_edges.now 28 (1 ∷ []) h refl refl
 
 pub returns-then-not-needs_held : goal.returns-then-not-needs_held
-unfolding sheeted_answer sheeted_place sheeted_given rows_place
 returns-then-not-needs_held c =
-    let framed = on c.frame_right.ensures c.if-not-frame_right.false in
-    let rowed = none_right c.args.book.now framed (sym c.broken_at.ensures ∙ ap rows_place c.in_default.is) in
-    let two = sym c.dim.ensures ∙ c.if-dim-ne2.false in
-    let h = fifteen c.args.book.now (length c.args.across.now) (length c.args.rim.now) (length c.args.rim_vertices.now) (length c.args.rim_edges.now) framed rowed two (off c.needs_held.ensures c.if-not-needs_held.true) in
-    let r = refused c.args.book.now c.args.across.now c.args.rim.now c.args.rim_vertices.now c.args.rim_edges.now 15 [] h refl in
-    record { answer = h; place = no_place c.args.book.now c.args.across.now c.args.rim.now c.args.rim_vertices.now c.args.rim_edges.now 15 [] h refl; given = r.0; across = r.1.0; bytes = r.1.1.0; vertices = r.1.1.1.0; edges = r.1.1.1.1 }
-
-pub tested-requires : goal.tested-requires
-unfolding rows_place
-tested-requires c =
-    let framed = on c.frame_right.ensures c.if-not-frame_right.false in
-    let rowed = none_right c.args.book.now framed (sym c.broken_at.ensures ∙ ap rows_place c.in_default.is) in
-    let two = sym c.dim.ensures ∙ c.if-dim-ne2.false in
-    flat-of c.args.book.now framed rowed two (on c.needs_held.ensures c.if-not-needs_held.false)
+    let at = goal.at.returns-then-not-needs_held c in
+    let b = right-book at.After-dim in
+    let h = fifteen c.args.book.now (length c.args.across.now) (length c.args.rim.now) (length c.args.rim_vertices.now) (length c.args.rim_edges.now) b.frame b.rows (two at.After-needs_held) (off (held-is at.After-needs_held) c.if-not-needs_held.true) in
+    refused c.args.book.now c.args.across.now c.args.rim.now c.args.rim_vertices.now c.args.rim_edges.now 15 [] h refl refl
 
 pub lay-requires : goal.lay-requires
-unfolding tested_answer rows_place
-lay-requires c =
-    let framed = on c.frame_right.ensures c.if-not-frame_right.false in
-    let rowed = none_right c.args.book.now framed (sym c.broken_at.ensures ∙ ap rows_place c.in_default.is) in
-    let two = sym c.dim.ensures ∙ c.if-dim-ne2.false in
-    let flat = flat-of c.args.book.now framed rowed two (on c.needs_held.ensures c.if-not-needs_held.false) in
-    is-sheet c.args.book.now flat (sym (ap tested_answer c.in-Sheet.is) ∙ c.tested.ensures)
+lay-requires c = rw c.in_ok-right.ensures.words (is-sheet c.args.book.now (flat (goal.at.lay-requires c).After-tested) (rw c.in_ok-right.ensures.words at c.in_ok-tested.ensures))
 
-pub returns-in-Off : goal.returns-in-Off
-unfolding sheeted_answer sheeted_place sheeted_given tested_answer rows_place
-returns-in-Off c =
-    let framed = on c.frame_right.ensures c.if-not-frame_right.false in
-    let rowed = none_right c.args.book.now framed (sym c.broken_at.ensures ∙ ap rows_place c.in_default.is) in
-    let two = sym c.dim.ensures ∙ c.if-dim-ne2.false in
-    let flat = flat-of c.args.book.now framed rowed two (on c.needs_held.ensures c.if-not-needs_held.false) in
-    let w = c.in-Off.why in
-    let e : why_answer w ≡ by_entities c.args.book.now = sym (ap tested_answer c.in-Off.is) ∙ c.tested.ensures in
-    let h = by-entities c.args.book.now (length c.args.across.now) (length c.args.rim.now) (length c.args.rim_vertices.now) (length c.args.rim_edges.now) flat (why_answer w) e (λ q. not-zero (drop 1 (why_answer w)) (sym (why-number w) ∙ q)) in
-    let k = sym (why-number w) ∙ h in
-    let r = refused c.args.book.now c.args.across.now c.args.rim.now c.args.rim_vertices.now c.args.rim_edges.now 28 (drop 1 (why_answer w)) k refl in
-    record { answer = h; place = no_place c.args.book.now c.args.across.now c.args.rim.now c.args.rim_vertices.now c.args.rim_edges.now 28 (drop 1 (why_answer w)) k refl; given = r.0; across = r.1.0; bytes = r.1.1.0; vertices = r.1.1.1.0; edges = r.1.1.1.1 }
+pub returns-in_err-tested : goal.returns-in_err-tested
+returns-in_err-tested c =
+    let w = c.in_err-tested.field-0.0 in
+    let h = handed-on c.from_residual-in_err-tested.result (refusals.NotSheet w) c.from_residual-in_err-tested.ensures.1 in
+    let e : why_answer w ≡ by_entities c.args.book.now = rw c.in_ok-right.ensures.words at c.in_err-tested.ensures in
+    let a = by-entities c.args.book.now (length c.args.across.now) (length c.args.rim.now) (length c.args.rim_vertices.now) (length c.args.rim_edges.now) (flat (goal.at.returns-in_err-tested c).After-tested) (why_answer w) e (λ q. not-zero (drop 1 (why_answer w)) (sym (why-number w) ∙ q)) in
+    let k = sym (why-number w) ∙ a in
+    let r = refused c.args.book.now c.args.across.now c.args.rim.now c.args.rim_vertices.now c.args.rim_edges.now 28 (drop 1 (why_answer w)) k refl refl in
+    record {
+      answer = ap answer_why h ∙ a;
+      place = ap answer_place h ∙ r.place;
+      given = ap (given [] rim_given) h ∙ r.given;
+      across = r.across;
+      bytes = r.bytes;
+      vertices = r.vertices;
+      edges = r.edges;
+    }

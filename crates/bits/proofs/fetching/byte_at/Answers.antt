@@ -9,9 +9,6 @@ pub returns-then-at-bytes : goal.returns-then-at-bytes
 unfolding there
 returns-then-at-bytes c = record { value = sym (get_or-eq_default c.args.bytes.now 0 (omega arith)); fetches = omega arith }
 
-pub overflow_cast-byte : goal.overflow_cast-byte
-overflow_cast-byte c = omega (arith, c.type_inv.bytes c.args.at)
-
 pub returns : goal.returns
 unfolding there
 returns c = record { value = refl; fetches = omega arith }

@@ -6,16 +6,7 @@ use Rattle.bits.proofs.Windows.{window-none, read-within}
 use Rattle.bits.proofs.reading.take_last.Goals as goal
 
 pub loop-k-init : goal.loop-k-init
-loop-k-init c = (omega arith, window-none _ _)
-
-pub one_more-taken-requires : goal.one_more-taken-requires
-one_more-taken-requires c = (omega arith, (omega arith, c.loop-k.invariant.1))
-
-pub loop-k-preserved : goal.loop-k-preserved
-loop-k-preserved c = (omega arith, c.one_more-taken.ensures)
-
-pub part-requires : goal.part-requires
-part-requires c = (omega arith, omega arith)
+loop-k-init c = window-none _ _
 
 pub returns : goal.returns
 returns c =
@@ -23,4 +14,4 @@ returns c =
     let t = c.loop-k in
     let n = (a.bit % 8 + a.width + 7) / 8 in
     let e : t.k ≡ n = omega arith in
-    read-within a.bytes.now a.bit a.width n (8 * n - (a.bit % 8 + a.width)) _ _ (omega arith) (omega arith) (omega arith) (rw e at t.invariant.1) c.part.ensures
+    read-within a.bytes.now a.bit a.width n (8 * n - (a.bit % 8 + a.width)) _ _ (omega arith) (omega arith) (omega arith) (rw e at t.invariant) c.part.ensures

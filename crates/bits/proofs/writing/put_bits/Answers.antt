@@ -6,11 +6,6 @@ use Rattle.rules.proofs.BitsWritten.{with-past}
 use Rattle.bits.proofs.Patching.{set-field, patched-fits}
 use Rattle.bits.proofs.writing.put_bits.Goals as goal
 
-pub patch-requires : goal.patch-requires
-patch-requires c =
-    let a = c.args in
-    (omega (arith, c.byte_at-old.ensures.value, c.slice_known-1.given a.at), omega arith)
-
 pub overflow_cast-bytes : goal.overflow_cast-bytes
 overflow_cast-bytes c =
     let a = c.args in

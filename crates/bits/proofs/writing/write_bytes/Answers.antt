@@ -19,12 +19,6 @@ loop-left-preserved c =
     let e : 8 + (t.left - 8) ≡ t.left = omega arith in
     (omega arith, (omega arith, (omega arith, next a.bytes.now (8 * a.start) a.width a.value (t.left - 8) 8 (8 * t.at + 0) t.bytes _ (rw e t.invariant.1.1.1) c.put_bits.ensures (omega arith) (omega arith))))
 
-pub shape_of-bytes : goal.shape_of-bytes
-shape_of-bytes c =
-    let a = c.args in
-    let t = c.loop-left in
-    ap length c.put_bits-2.ensures ∙ length-with t.bytes _ _ _ ∙ ap length t.invariant.1.1.1 ∙ length-with a.bytes.now _ _ _
-
 pub returns : goal.returns
 returns c =
     let a = c.args in

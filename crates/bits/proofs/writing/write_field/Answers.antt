@@ -12,12 +12,6 @@ returns-then-width-eq0 c =
     let e : a.width ≡ 0 = omega arith in
     rw e (sym (with_none a.bytes.now a.bit a.value (λ i. (c.type_inv.bytes i).fits)))
 
-pub returns-then-end-le8 : goal.returns-then-end-le8
-returns-then-end-le8 c =
-    let a = c.args in
-    let e : 8 * (a.bit / 8) + a.bit % 8 ≡ a.bit = omega arith in
-    c.put_bits.ensures ∙ rw e
-
 pub returns : goal.returns
 returns c =
     let a = c.args in

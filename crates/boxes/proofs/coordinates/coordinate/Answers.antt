@@ -1,6 +1,5 @@
 -- `boxes::coordinates::coordinate` meets its contract: 0.0 past the axes and past the list.
 use mathlib.Core.Path.{sym}
-use native.Mathlib.Nat.{mul-le-mul_right}
 use native.Mathlib.Omega.{arith}
 use borrow.Author.Tests.{lt-ltb, le-ltb}
 use Prim.Native.Nat.{◌+◌, ◌*◌}
@@ -12,13 +11,7 @@ use Rattle.boxes.proofs.coordinates.coordinate.Goals as goal
 
 pub returns-then-axes-k : goal.returns-then-axes-k
 unfolding coordinate float_zero of_bits
-returns-then-axes-k c = rw (le-ltb c.args.k c.args.axes (omega (arith, c.if-axes-k.true, c.requires.fact_1)))
-
-pub overflow_mul-at : goal.overflow_mul-at
-overflow_mul-at c = let start = c in omega (arith, mul-le-mul_right start.args.v start.requires.fact_1, start.requires.fact_2, start.ranges.v)
-
-pub overflow_add-at : goal.overflow_add-at
-overflow_add-at c = let start = c in omega (arith, mul-le-mul_right start.args.v start.requires.fact_1, start.requires.fact_2, start.ranges.v)
+returns-then-axes-k c = rw (le-ltb c.args.k c.args.axes (omega (arith, c.if-axes-k.true, c.requires.axes)))
 
 pub returns-then-at-coordinates : goal.returns-then-at-coordinates
 unfolding coordinate float_zero

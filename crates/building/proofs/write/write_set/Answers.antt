@@ -18,5 +18,5 @@ returns-else-d-eq2 c =
     let r = q in
     let s = r in
     let n = c.if-d-eq2.false in
-    let e : s.args.d ≡ 1 = omega (arith, s.requires.fact_2, n) in
+    let e : s.args.d ≡ 1 = omega (arith, s.requires.size, n) in
     rw (q.put-2.ensures, r.put.ensures) (two-written _ _ _ _ _ e)

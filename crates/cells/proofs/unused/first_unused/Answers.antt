@@ -5,6 +5,7 @@ use native.Mathlib.Omega.{arith}
 use Rattle.rules.specs.Lists.{joined}
 use Rattle.rules.specs.Book.{dim, count, key, rows_of}
 use Rattle.rules.proofs.Searched.{least-agree}
+use Rattle.kinds.specs.Lowest.{lowest_below}
 use Rattle.cells.proofs.Marks.{marked-is, named-unused, vertices-low, cells_low}
 use Rattle.cells.proofs.unused.first_unused.Goals as goal
 
@@ -20,10 +21,8 @@ first_unmarked-requires c =
 
 pub returns : goal.returns
 returns c =
-    let m = c in
-    let s = m in
-    let ws = s.args.book.now in
-    let e = rw m.cells.ensures at m.mark.ensures in
+    let ws = c.args.book.now in
+    let e = rw c.cells.ensures at c.mark.ensures in
     rw (c.count.ensures, e) at c.first_unmarked.ensures
-    ∙ least-agree _ _ (count ws 0)
-    (λ v l. ap not (marked-is (joined (rows_of ws (key (dim ws) 0))) (cells_low ws s.requires.0 s.requires.1) v) ∙ named-unused ws s.requires.0 s.requires.1 v l)
+    ∙ ap (lowest_below (λ v. v) (count ws 0)) (least-agree _ _ (count ws 0)
+    (λ v l. ap not (marked-is (joined (rows_of ws (key (dim ws) 0))) (cells_low ws c.requires.0 c.requires.1) v) ∙ named-unused ws c.requires.0 c.requires.1 v l))

@@ -1,6 +1,6 @@
 -- `closures::writing::write_steps` meets its contract. The loop's invariant: below i both lists are filled.
 use mathlib.Core.List.{List}
-use Prim.Native.Nat.{ℕ, ◌≤◌, ◌-◌}
+use Prim.Native.Nat.{ℕ}
 use lib.IntN.{ℤ}
 use lib.Ieee.{Float, nan}
 use Rattle.rules.proofs.Placed.{Placed}
@@ -16,7 +16,4 @@ abbrev pub stepped : List ℤ → List ℕ → ℕ → Float
 stepped counts edges k = edge_step counts (pair_at edges k)
 
 abbrev pub invariant-loop-i : goal.invariant-loop-i
-invariant-loop-i l = (l.i ≤ l.n) × (Placed (stepped l.counts l.edges) nan l.n l.i l.steps × Placed (marked l.counts l.edges) 0 l.n l.i l.bytes)
-
-abbrev pub decreases-loop-i : goal.decreases-loop-i
-decreases-loop-i l = l.n - l.i
+invariant-loop-i l = Placed (stepped l.counts l.edges) nan l.n l.i l.steps × Placed (marked l.counts l.edges) 0 l.n l.i l.bytes

@@ -1,130 +1,73 @@
 -- Each refusal in its order, then all that is asked for or nothing.
-use mathlib.Core.Path.{◌≡◌, refl, sym, ◌∙◌}
-use mathlib.Core.Bool.{true, false, ◌&&◌}
-use Prim.Native.Nat.{◌≤◌}
+use mathlib.Core.Path.{◌≡◌, refl, sym, ap, ◌∙◌}
+use mathlib.Core.Bool.{false, ◌&&◌}
+use Prim.Native.Nat.{◌≤◌, ◌<◌}
 use native.Mathlib.Omega.{arith}
 use Rattle.rules.specs.Lists.{up_to, any_of}
-use Rattle.rules.specs.Book.{dim, key}
+use Rattle.rules.specs.Book.{dim}
 use Rattle.rules.specs.Calls.{differs, has_to_make}
 use Rattle.rules.proofs.Needs.{key-div, key-mod}
 use Rattle.rules.proofs.FrameRule.{framed}
 use Rattle.rules.proofs.Growing.{start-alike}
-use Rattle.making.specs.Growth.{Askable, wanted, answered}
-use Rattle.daybook.specs.Answers.{asked_number, asked_place}
+use Rattle.kinds.specs.Refusals.{answer_number, answer_place}
+use Rattle.making.specs.Growth.{wanted, answered}
+use Rattle.making.proofs.Room.{room-number, room-place}
 use Rattle.daybook.proofs.MakeCases.{ask-first, ask-second, ask-differs, ask-whole}
+use Rattle.daybook.proofs.asks.ask_right.Goals.{Else-e-top, Else-ask_differs}
 use Rattle.daybook.proofs.asks.ask_right.Goals as goal
 
+first : (c : Else-e-top) → c.args.d ≤ dim c.args.book.now
+first c = rw c.dim-top.ensures at c.if-d-top.false
+
+second : (c : Else-e-top) → c.args.e ≤ dim c.args.book.now
+second c = rw c.dim-top.ensures at c.if-e-top.false
+
+-- the entities found are as many as those that are kept
+alike : (c : Else-ask_differs) → any_of (λ x. has_to_make c.args.book.now c.args.d c.args.e x && differs c.args.book.now x) (up_to 3) ≡ false
+alike c = sym c.ask_differs.ensures ∙ c.if-ask_differs.false
+
 pub returns-then-d-top : goal.returns-then-d-top
-unfolding asked_number asked_place
 returns-then-d-top c =
-    let s = c in
-    let a = s.args in
-    let g = ask-first a.book.now a.d a.e s.requires.0 s.requires.1 (rw c.dim-top.ensures at c.if-d-top.true) in record { number = g.number_is; place = refl; words = g.words_are }
+    let g = ask-first _ c.args.d c.args.e c.requires.frame c.requires.rows (rw c.dim-top.ensures at c.if-d-top.true) in
+    record { number = g.number_is; place = refl; words = g.words_are }
 
 pub returns-then-e-top : goal.returns-then-e-top
-unfolding asked_number asked_place
 returns-then-e-top c =
-    let s = c in
-    let a = s.args in
-    let g = ask-second a.book.now a.d a.e s.requires.0 s.requires.1 (rw c.dim-top.ensures at c.if-e-top.true) in record { number = g.number_is; place = refl; words = g.words_are }
-
--- ==== the entities that are counted already
-pub ask_differs-requires : goal.ask_differs-requires
-ask_differs-requires c =
-    let first : let a = c.args in a.d ≤ dim a.book.now =
-    rw c.dim-top.ensures at c.if-d-top.false in
-    let second : let a = c.args in a.e ≤ dim a.book.now =
-    rw c.dim-top.ensures at c.if-e-top.false in
-    let t = c in
-    let s = t in
-    (record { frame = s.requires.0; rows = s.requires.1 }, (first, second))
+    let g = ask-second _ c.args.d c.args.e c.requires.frame c.requires.rows (rw c.dim-top.ensures at c.if-e-top.true) in
+    record { number = g.number_is; place = refl; words = g.words_are }
 
 pub returns-then-ask_differs : goal.returns-then-ask_differs
-unfolding asked_number asked_place
 returns-then-ask_differs c =
-    let first : let a = c.args in a.d ≤ dim a.book.now =
-    rw c.dim-top.ensures at c.if-d-top.false in
-    let second : let a = c.args in a.e ≤ dim a.book.now =
-    rw c.dim-top.ensures at c.if-e-top.false in
-    let t = c in
-    let s = t in
-    let a = s.args in
-    let g = ask-differs a.book.now a.d a.e s.requires.0 s.requires.1 (first) (second) (sym c.ask_differs.ensures ∙ c.if-ask_differs.true) in record { number = g.number_is; place = refl; words = g.words_are }
+    let at = (goal.at.returns-then-ask_differs c).Else-e-top in
+    let g = ask-differs _ c.args.d c.args.e c.requires.frame c.requires.rows (first at) (second at) (sym c.ask_differs.ensures ∙ c.if-ask_differs.true) in
+    record { number = g.number_is; place = refl; words = g.words_are }
 
--- ==== the relation
 pub key-requires : goal.key-requires
 key-requires c =
-    let first : let a = c.args in a.d ≤ dim a.book.now =
-    rw c.dim-top.ensures at c.if-d-top.false in
-    let second : let a = c.args in a.e ≤ dim a.book.now =
-    rw c.dim-top.ensures at c.if-e-top.false in
-    let high : dim c.args.book.now ≤ 3 =
-    (framed _ c.requires.0).high in
-    let t = c in
-    let x = first in
-    let y = second in
-    let h = high in
-    (omega arith, omega arith)
-
-askable : (c : goal.After-key) → let a = c.args in Askable a.book.now (key a.d a.e)
-unfolding wanted
-askable c =
-    let first : let a = c.args in a.d ≤ dim a.book.now =
-    rw c.dim-top.ensures at c.if-d-top.false in
-    let second : let a = c.args in a.e ≤ dim a.book.now =
-    rw c.dim-top.ensures at c.if-e-top.false in
-    let high : dim c.args.book.now ≤ 3 =
-    (framed _ c.requires.0).high in
-    let alike : let a = c.args in any_of (λ x. has_to_make a.book.now a.d a.e x && differs a.book.now x) (up_to 3) ≡ false =
-    sym c.ask_differs.ensures ∙ c.if-ask_differs.false in
-    let t = c in
-    let s = t in
-    let ws = s.args.book.now in
-    let d = s.args.d in
-    let e = s.args.e in
-    let y = second in
-    let h = high in
-    record {
-      frame = s.requires.0;
-      rows = s.requires.1;
-      first = rw (key-div d e (omega arith)) (first);
-      second = rw (key-mod d e (omega arith)) y;
-      alike = start-alike ws (record { frame = s.requires.0; rows = s.requires.1 }) d e (alike);
-    }
+    let at = (goal.at.key-requires c).Else-e-top in
+    let h = (framed _ c.requires.frame).high in
+    (omega (arith, h, first at), omega (arith, h, second at))
 
 pub ask_for-requires : goal.ask_for-requires
-ask_for-requires c = rw c.key.ensures (askable c)
-
-pub returns-then-not-ask_for : goal.returns-then-not-ask_for
-unfolding asked_number asked_place wanted answered
-returns-then-not-ask_for c =
-    let first : let a = c.args in a.d ≤ dim a.book.now =
-    rw c.dim-top.ensures at c.if-d-top.false in
-    let second : let a = c.args in a.e ≤ dim a.book.now =
-    rw c.dim-top.ensures at c.if-e-top.false in
-    let alike : let a = c.args in any_of (λ x. has_to_make a.book.now a.d a.e x && differs a.book.now x) (up_to 3) ≡ false =
-    sym c.ask_differs.ensures ∙ c.if-ask_differs.false in
-    let k = c in
-    let n = k in
-    let t = n in
-    let s = t in
-    let a = s.args in
-    let w = rw k.key.ensures at k.ask_for.ensures in
-    let g = ask-whole a.book.now a.d a.e s.requires.0 s.requires.1 (first) (second) (alike) false (sym (c.if-not-ask_for.true) ∙ w.fits) _ w.words in record { number = g.number_is; place = refl; words = g.words_are }
+unfolding wanted
+ask_for-requires c =
+    let at = goal.at.ask_for-requires c in
+    let a = first at.Else-e-top in
+    let b = second at.Else-e-top in
+    let l : c.args.e < 4 = omega (arith, b, (framed _ c.requires.frame).high) in
+    rw c.key.ensures
+    record {
+      frame = c.requires.frame;
+      rows = c.requires.rows;
+      first = rw (key-div c.args.d c.args.e l) a;
+      second = rw (key-mod c.args.d c.args.e l) b;
+      alike = start-alike _ c.requires c.args.d c.args.e (alike at.Else-ask_differs);
+    }
 
 pub returns : goal.returns
-unfolding asked_number asked_place wanted answered
+unfolding wanted answered
 returns c =
-    let first : let a = c.args in a.d ≤ dim a.book.now =
-    rw c.dim-top.ensures at c.if-d-top.false in
-    let second : let a = c.args in a.e ≤ dim a.book.now =
-    rw c.dim-top.ensures at c.if-e-top.false in
-    let alike : let a = c.args in any_of (λ x. has_to_make a.book.now a.d a.e x && differs a.book.now x) (up_to 3) ≡ false =
-    sym c.ask_differs.ensures ∙ c.if-ask_differs.false in
-    let k = c in
-    let n = k in
-    let t = n in
-    let s = t in
-    let a = s.args in
-    let w = rw k.key.ensures at k.ask_for.ensures in
-    let g = ask-whole a.book.now a.d a.e s.requires.0 s.requires.1 (first) (second) (alike) true (sym (c.if-not-ask_for.false) ∙ w.fits) _ w.words in record { number = g.number_is; place = refl; words = g.words_are }
+    let at = goal.at.returns c in
+    let w = rw c.key.ensures at c.ask_for.ensures in
+    let g = ask-whole _ c.args.d c.args.e c.requires.frame c.requires.rows (first at.Else-e-top) (second at.Else-e-top) (alike at.Else-ask_differs) _ refl _ w.words in
+    record { number = ap answer_number w.fits ∙ room-number _ _ ∙ g.number_is; place = ap answer_place w.fits ∙ room-place _ _; words = g.words_are }

@@ -1,18 +1,18 @@
 -- Each refusal in its order, then the relation taken out.
-use mathlib.Core.Path.{◌≡◌, refl, sym, ap, ◌∙◌}
+use mathlib.Core.Path.{◌≡◌, sym, ap, ◌∙◌}
 use mathlib.Core.Bool.{true}
 use mathlib.Core.Option.{none}
 use Prim.Native.Nat.{ℕ, ◌≤◌}
 use native.Mathlib.Omega.{arith}
-use Rattle.rules.specs.Book.{dim, key, held, frame_right, rows_right}
+use Rattle.rules.specs.Book.{dim, key, held, Right}
 use Rattle.rules.specs.Broken.{broken_at, told}
-use Rattle.rules.specs.Calls.{drop_number}
+use Rattle.rules.specs.Calls.{drop_number, drop_rules, drop_words}
 use Rattle.rules.proofs.FrameRule.{framed}
-use Rattle.rules.proofs.Told.{none_right, some-wrong, told-eleven, untold-as, untold-none}
+use Rattle.rules.proofs.Told.{right-none, untold-none}
 use Rattle.book.proofs.Flags.{off, on}
-use Rattle.rows.specs.Answers.{rows_place}
-use Rattle.daybook.specs.Answers.{dropped_number, dropped_place}
-use Rattle.daybook.proofs.MakeCases.{drop-frame, drop-rows, drop-first, drop-second, drop-none, drop_cells, drop-whole}
+use Rattle.right.proofs.Checks.{refuses}
+use Rattle.daybook.proofs.MakeCases.{drop-first, drop-second, drop-none, drop_cells, drop-whole}
+use Rattle.daybook.proofs.drops.drop_relation.Goals.{In_ok-check, Else-e-top, After-key, Else-k-key}
 use Rattle.daybook.proofs.drops.drop_relation.Goals as goal
 
 -- equal keys are of the same dimensions
@@ -27,187 +27,80 @@ same_second d e D i j l p q s = omega arith
 apart : (d e D i j : ℕ) → i ≡ key d e → j ≡ key D 0 → (i ≡ j → ⊥) → d ≡ D → e ≡ 0 → ⊥
 apart d e D i j p q n a b = n (rw (p, q, a, b))
 
-pub returns-then-not-frame_right : goal.returns-then-not-frame_right
-unfolding dropped_number dropped_place
-returns-then-not-frame_right c =
-    let a = c.args in
-    let g = drop-frame a.book.now a.d a.e (off c.frame_right.ensures c.if-not-frame_right.true) in record { number = g.number_is; place = untold-as 10 _ _ refl g.number_is; words = g.words_are }
+right : (c : In_ok-check) → Right c.args.book.now
+right c = rw c.in_ok-check.ensures.words at c.in_ok-check.ensures.right
 
--- ==== the rows
-pub broken_at-requires : goal.broken_at-requires
-broken_at-requires c =
-    let frame : frame_right c.args.book.now ≡ true =
-    on c.frame_right.ensures c.if-not-frame_right.false in
-    frame
+-- a right book has no place to tell
+untold : (c : In_ok-check) → none ≡ told (drop_number c.args.book.now c.args.d c.args.e) (broken_at c.args.book.now)
+untold c = let r = right c in untold-none _ _ (right-none c.args.book.now r.frame r.rows)
 
-pub returns-in-BrokenAt : goal.returns-in-BrokenAt
-unfolding dropped_number dropped_place rows_place
-returns-in-BrokenAt c =
-    let frame : frame_right c.args.book.now ≡ true =
-    on c.frame_right.ensures c.if-not-frame_right.false in
-    let p = c in
-    let b = p in
-    let f = b in
-    let a = f.args in
-    let q = sym b.broken_at.ensures ∙ ap rows_place p.in-BrokenAt.is in
-    let g = drop-rows a.book.now a.d a.e frame (some-wrong _ frame _ q) in record { number = g.number_is; place = sym q ∙ told-eleven _ _ g.number_is; words = g.words_are }
+first : (c : Else-e-top) → c.args.d ≤ dim c.args.book.now
+first c = omega (arith, c.dim-top.ensures.dim, ap dim c.in_ok-check.ensures.words, c.if-d-top.false)
+
+second : (c : Else-e-top) → c.args.e ≤ dim c.args.book.now
+second c = omega (arith, c.dim-top.ensures.dim, ap dim c.in_ok-check.ensures.words, c.if-e-top.false)
+
+there : (c : After-key) → held c.args.book.now (key c.args.d c.args.e) ≡ true
+there c = ap (held _) (sym c.key-k.ensures) ∙ on c.held.ensures c.if-not-held.false
+
+of-cells : (c : After-key) → c.key.result ≡ key (dim c.args.book.now) 0
+of-cells c = c.key.ensures ∙ ap (λ (D : ℕ). key D 0) (c.dim-top.ensures.dim ∙ ap dim c.in_ok-check.ensures.words)
+
+inner : (c : Else-k-key) → c.args.d ≡ dim c.args.book.now → c.args.e ≡ 0 → ⊥
+inner c = apart _ _ _ _ _ c.key-k.ensures (c.key.ensures ∙ ap (λ (D : ℕ). key D 0) (c.dim-top.ensures.dim ∙ ap dim c.in_ok-check.ensures.words)) c.if-k-key.false
+
+pub returns-in_err-check : goal.returns-in_err-check
+unfolding drop_number drop_rules drop_words
+returns-in_err-check c =
+    let r = refuses c.args.book.now _ _ _ c.from_residual.ensures.1 c.in_err-check.ensures.number c.in_err-check.ensures.place in
+    record { number = r.number; place = r.place; words = rw r.some }
 
 pub returns-then-d-top : goal.returns-then-d-top
-unfolding dropped_number dropped_place rows_place
 returns-then-d-top c =
-    let found : broken_at c.args.book.now ≡ none =
-    sym c.broken_at.ensures ∙ ap rows_place c.in_default.is in
-    let untold : let a = c.args in none ≡ told (drop_number a.book.now a.d a.e) (broken_at a.book.now) =
-    untold-none _ _ (found) in
-    let frame : frame_right c.args.book.now ≡ true =
-    on c.frame_right.ensures c.if-not-frame_right.false in
-    let rows : rows_right c.args.book.now ≡ true =
-    none_right _ (frame) (found) in
-    let r = c in
-    let a = r.args in
-    let g = drop-first a.book.now a.d a.e (frame) (rows) (rw c.dim-top.ensures at c.if-d-top.true) in record { number = g.number_is; place = untold; words = g.words_are }
+    let p = (goal.at.returns-then-d-top c).In_ok-check in
+    let r = right p in
+    let g = drop-first c.args.book.now c.args.d c.args.e r.frame r.rows (omega (arith, c.dim-top.ensures.dim, ap dim c.in_ok-check.ensures.words, c.if-d-top.true)) in
+    record { number = g.number_is; place = untold p; words = g.words_are }
 
 pub returns-then-e-top : goal.returns-then-e-top
-unfolding dropped_number dropped_place rows_place
 returns-then-e-top c =
-    let found : broken_at c.args.book.now ≡ none =
-    sym c.broken_at.ensures ∙ ap rows_place c.in_default.is in
-    let untold : let a = c.args in none ≡ told (drop_number a.book.now a.d a.e) (broken_at a.book.now) =
-    untold-none _ _ (found) in
-    let frame : frame_right c.args.book.now ≡ true =
-    on c.frame_right.ensures c.if-not-frame_right.false in
-    let rows : rows_right c.args.book.now ≡ true =
-    none_right _ (frame) (found) in
-    let t = c in
-    let r = t in
-    let a = r.args in
-    let g = drop-second a.book.now a.d a.e (frame) (rows) (rw t.dim-top.ensures at c.if-e-top.true) in record { number = g.number_is; place = untold; words = g.words_are }
+    let p = (goal.at.returns-then-e-top c).In_ok-check in
+    let r = right p in
+    let g = drop-second c.args.book.now c.args.d c.args.e r.frame r.rows (omega (arith, c.dim-top.ensures.dim, ap dim c.in_ok-check.ensures.words, c.if-e-top.true)) in
+    record { number = g.number_is; place = untold p; words = g.words_are }
 
--- ==== whether it is held
 pub key-k-requires : goal.key-k-requires
 key-k-requires c =
-    let first : let a = c.args in a.d ≤ dim a.book.now =
-    rw c.dim-top.ensures at c.if-d-top.false in
-    let second : let a = c.args in a.e ≤ dim a.book.now =
-    rw c.dim-top.ensures at c.if-e-top.false in
-    let frame : frame_right c.args.book.now ≡ true =
-    on c.frame_right.ensures c.if-not-frame_right.false in
-    let high : dim c.args.book.now ≤ 3 =
-    (framed _ (frame)).high in
-    let x = first in
-    let y = second in
-    let h = high in
-    (omega arith, omega arith)
+    let at = goal.at.key-k-requires c in
+    let h = (framed _ (right at.In_ok-check).frame).high in
+    (omega (arith, h, first at.Else-e-top), omega (arith, h, second at.Else-e-top))
 
 pub returns-then-not-held : goal.returns-then-not-held
-unfolding dropped_number dropped_place rows_place
 returns-then-not-held c =
-    let found : broken_at c.args.book.now ≡ none =
-    sym c.broken_at.ensures ∙ ap rows_place c.in_default.is in
-    let untold : let a = c.args in none ≡ told (drop_number a.book.now a.d a.e) (broken_at a.book.now) =
-    untold-none _ _ (found) in
-    let frame : frame_right c.args.book.now ≡ true =
-    on c.frame_right.ensures c.if-not-frame_right.false in
-    let rows : rows_right c.args.book.now ≡ true =
-    none_right _ (frame) (found) in
-    let first : let a = c.args in a.d ≤ dim a.book.now =
-    rw c.dim-top.ensures at c.if-d-top.false in
-    let second : let a = c.args in a.e ≤ dim a.book.now =
-    rw c.dim-top.ensures at c.if-e-top.false in
-    let k = c in
-    let t = k in
-    let r = t in
-    let a = t.args in
-    let g = drop-none a.book.now a.d a.e (frame) (rows) (first) (second) (ap (held _) (sym k.key-k.ensures) ∙ off c.held.ensures c.if-not-held.true) in record { number = g.number_is; place = untold; words = g.words_are }
+    let at = goal.at.returns-then-not-held c in
+    let r = right at.In_ok-check in
+    let g = drop-none c.args.book.now c.args.d c.args.e r.frame r.rows (first at.Else-e-top) (second at.Else-e-top) (ap (held _) (sym c.key-k.ensures) ∙ off c.held.ensures c.if-not-held.true) in
+    record { number = g.number_is; place = untold at.In_ok-check; words = g.words_are }
 
--- ==== whether it is D→0
 pub key-requires : goal.key-requires
 key-requires c =
-    let frame : frame_right c.args.book.now ≡ true =
-    on c.frame_right.ensures c.if-not-frame_right.false in
-    let high : dim c.args.book.now ≤ 3 =
-    (framed _ (frame)).high in
-    let t = c in
-    (rw t.dim-top.ensures (high), omega arith)
+    let h = (framed _ (right (goal.at.key-requires c).In_ok-check).frame).high in
+    (omega (arith, h, c.dim-top.ensures.dim, ap dim c.in_ok-check.ensures.words), omega arith)
 
 pub returns-then-k-key : goal.returns-then-k-key
-unfolding dropped_number dropped_place rows_place
 returns-then-k-key c =
-    let found : broken_at c.args.book.now ≡ none =
-    sym c.broken_at.ensures ∙ ap rows_place c.in_default.is in
-    let untold : let a = c.args in none ≡ told (drop_number a.book.now a.d a.e) (broken_at a.book.now) =
-    untold-none _ _ (found) in
-    let frame : frame_right c.args.book.now ≡ true =
-    on c.frame_right.ensures c.if-not-frame_right.false in
-    let rows : rows_right c.args.book.now ≡ true =
-    none_right _ (frame) (found) in
-    let first : let a = c.args in a.d ≤ dim a.book.now =
-    rw c.dim-top.ensures at c.if-d-top.false in
-    let second : let a = c.args in a.e ≤ dim a.book.now =
-    rw c.dim-top.ensures at c.if-e-top.false in
-    let high : dim c.args.book.now ≤ 3 =
-    (framed _ (frame)).high in
-    let there : let a = c.args in held a.book.now (key a.d a.e) ≡ true =
-    ap (held _) (sym c.key-k.ensures) ∙ on c.held.ensures c.if-not-held.false in
-    let n = c in
-    let t = n in
-    let r = t in
-    let a = t.args in
-    let k = n.key-k.ensures in
-    let j = c.key.ensures ∙ ap (λ (D : ℕ). key D 0) t.dim-top.ensures in
-    let l : a.e ≤ 3 = let y = second in let h = high in omega arith in
-    let g
-    = drop_cells a.book.now a.d a.e (frame) (rows) (first) (second) (there)
-    (same_first a.d a.e _ _ _ l k j c.if-k-key.true)
-    (same_second a.d a.e _ _ _ l k j c.if-k-key.true) in record { number = g.number_is; place = untold; words = g.words_are }
-
--- ==== the relation
-pub take_out-requires : goal.take_out-requires
-unfolding rows_place
-take_out-requires c =
-    let frame : frame_right c.args.book.now ≡ true =
-    on c.frame_right.ensures c.if-not-frame_right.false in
-    let found : broken_at c.args.book.now ≡ none =
-    sym c.broken_at.ensures ∙ ap rows_place c.in_default.is in
-    let rows : rows_right c.args.book.now ≡ true =
-    none_right _ (frame) (found) in
-    let first : let a = c.args in a.d ≤ dim a.book.now =
-    rw c.dim-top.ensures at c.if-d-top.false in
-    let second : let a = c.args in a.e ≤ dim a.book.now =
-    rw c.dim-top.ensures at c.if-e-top.false in
-    let there : let a = c.args in held a.book.now (key a.d a.e) ≡ true =
-    ap (held _) (sym c.key-k.ensures) ∙ on c.held.ensures c.if-not-held.false in
-    let inner : let a = c.args in a.d ≡ dim a.book.now → a.e ≡ 0 → ⊥ =
-    let n = c in
-    let t = n in
-    apart _ _ _ _ _ n.key-k.ensures (c.key.ensures ∙ ap (λ (D : ℕ). key D 0) t.dim-top.ensures) c.if-k-key.false in
-    let n = c in
-    let t = n in
-    record { frame = frame; rows = rows; first = first; second = second; there = there; inner = inner }
+    let at = goal.at.returns-then-k-key c in
+    let r = right at.In_ok-check in
+    let l : c.args.e ≤ 3 = omega (arith, second at.Else-e-top, (framed _ r.frame).high) in
+    let j = of-cells at.After-key in
+    let g = drop_cells c.args.book.now c.args.d c.args.e r.frame r.rows (first at.Else-e-top) (second at.Else-e-top) (there at.After-key)
+    (same_first _ _ _ _ _ l c.key-k.ensures j c.if-k-key.true)
+    (same_second _ _ _ _ _ l c.key-k.ensures j c.if-k-key.true) in
+    record { number = g.number_is; place = untold at.In_ok-check; words = g.words_are }
 
 pub returns : goal.returns
-unfolding dropped_number dropped_place rows_place
 returns c =
-    let found : broken_at c.args.book.now ≡ none =
-    sym c.broken_at.ensures ∙ ap rows_place c.in_default.is in
-    let untold : let a = c.args in none ≡ told (drop_number a.book.now a.d a.e) (broken_at a.book.now) =
-    untold-none _ _ (found) in
-    let frame : frame_right c.args.book.now ≡ true =
-    on c.frame_right.ensures c.if-not-frame_right.false in
-    let rows : rows_right c.args.book.now ≡ true =
-    none_right _ (frame) (found) in
-    let first : let a = c.args in a.d ≤ dim a.book.now =
-    rw c.dim-top.ensures at c.if-d-top.false in
-    let second : let a = c.args in a.e ≤ dim a.book.now =
-    rw c.dim-top.ensures at c.if-e-top.false in
-    let there : let a = c.args in held a.book.now (key a.d a.e) ≡ true =
-    ap (held _) (sym c.key-k.ensures) ∙ on c.held.ensures c.if-not-held.false in
-    let inner : let a = c.args in a.d ≡ dim a.book.now → a.e ≡ 0 → ⊥ =
-    let n = c in
-    let t = n in
-    apart _ _ _ _ _ n.key-k.ensures (c.key.ensures ∙ ap (λ (D : ℕ). key D 0) t.dim-top.ensures) c.if-k-key.false in
-    let n = c in
-    let t = n in
-    let r = t in
-    let a = t.args in
-    let g = drop-whole a.book.now a.d a.e (frame) (rows) (first) (second) (there) (inner) _ c.take_out.ensures in record { number = g.number_is; place = untold; words = g.words_are }
+    let at = goal.at.returns c in
+    let r = right at.In_ok-check in
+    let g = drop-whole c.args.book.now c.args.d c.args.e r.frame r.rows (first at.Else-e-top) (second at.Else-e-top) (there at.After-key) (inner at.Else-k-key) _ c.take_out.ensures in
+    record { number = g.number_is; place = untold at.In_ok-check; words = g.words_are }

@@ -1,53 +1,27 @@
--- Each answer has its number; where accepted, whether there is a box and its ends, and with 11 the place.
-use mathlib.Core.Path.{refl, sym, ap, ◌∙◌}
-use Rattle.rules.proofs.Told.{told-place}
-use Rattle.boxing.specs.Answers.{whole_boxed_number, whole_boxed_place, whole_boxed_ends}
-use Rattle.daybook_c.proofs.Given.{ends-put, some-put, ends-kept, none-put}
+-- With 11 the place is the book's.
+use mathlib.Core.Path.{◌≡◌, refl, sym, ap, ◌∙◌}
+use Rattle.daybook_c.proofs.Telling.{book-key, book-position}
+use Rattle.boxing.specs.Answers.{some_ends}
+use Rattle.daybook_c.proofs.Given.{ends-put, ends-kept, some-put, none-put}
 use Rattle.daybook_c.proofs.boxed.daybook_whole_box.Goals as goal
 
-pub returns-in-Around : goal.returns-in-Around
-unfolding whole_boxed_number whole_boxed_ends
-returns-in-Around c =
-    let b = c in
-    let w = b.whole_box.ensures in
-    let t = b.in-Around.is in
-    let e = sym (ap whole_boxed_ends t) ∙ w.ends in record { number = sym (ap whole_boxed_number t) ∙ w.number; key = refl; position = refl; some = some-put _ _ e; ends = c.put.ensures ∙ ends-put _ _ e _ }
+pub returns-in-Err-clause-key : goal.returns-in-Err-clause-key
+returns-in-Err-clause-key c = c.refused.ensures.key ∙ book-key c.in-Err.refusal _ _ c.refused.ensures.number c.in-Err.ensures.number _ c.in-Err.ensures.place _
 
-pub returns-in-NoBox : goal.returns-in-NoBox
-unfolding whole_boxed_number whole_boxed_ends
-returns-in-NoBox c =
-    let w = c.whole_box.ensures in
-    let t = c.in-NoBox.is in
-    let e = sym (ap whole_boxed_ends t) ∙ w.ends in record { number = sym (ap whole_boxed_number t) ∙ w.number; key = refl; position = refl; some = none-put _ e; ends = ends-kept _ e _ }
+pub returns-in-Err-clause-position : goal.returns-in-Err-clause-position
+returns-in-Err-clause-position c = c.refused.ensures.position ∙ book-position c.in-Err.refusal _ _ c.refused.ensures.number c.in-Err.ensures.number _ c.in-Err.ensures.place _
 
-pub returns-in-FrameBroken : goal.returns-in-FrameBroken
-unfolding whole_boxed_number whole_boxed_ends
-returns-in-FrameBroken c =
-    let w = c.whole_box.ensures in
-    let t = c.in-FrameBroken.is in record { number = sym (ap whole_boxed_number t) ∙ w.number; key = refl; position = refl; some = refl; ends = ends-kept _ (sym (ap whole_boxed_ends t) ∙ w.ends) _ }
+pub returns-in-Ok-Some-clause-some : goal.returns-in-Ok-Some-clause-some
+returns-in-Ok-Some-clause-some c = some-put _ _ (sym (ap some_ends c.in-Ok-Some.field-0-is) ∙ c.in-Ok-Some.ensures.ends)
 
-pub returns-in-RowsBroken : goal.returns-in-RowsBroken
-unfolding whole_boxed_number whole_boxed_place whole_boxed_ends
-returns-in-RowsBroken c =
-    let w = c.whole_box.ensures in
-    let t = c.in-RowsBroken.is in
-    let e = sym (ap whole_boxed_number t) ∙ w.number in
-    let p = told-place _ _ _ e (sym (ap whole_boxed_place t) ∙ w.place) in record { number = e; key = p.0; position = p.1; some = refl; ends = ends-kept _ (sym (ap whole_boxed_ends t) ∙ w.ends) _ }
+pub returns-in-Ok-Some-clause-ends : goal.returns-in-Ok-Some-clause-ends
+returns-in-Ok-Some-clause-ends c = c.into.ensures ∙ ends-put _ _ (sym (ap some_ends c.in-Ok-Some.field-0-is) ∙ c.in-Ok-Some.ensures.ends) _
 
-pub returns-in-AxisCount : goal.returns-in-AxisCount
-unfolding whole_boxed_number whole_boxed_ends
-returns-in-AxisCount c =
-    let w = c.whole_box.ensures in
-    let t = c.in-AxisCount.is in record { number = sym (ap whole_boxed_number t) ∙ w.number; key = refl; position = refl; some = refl; ends = ends-kept _ (sym (ap whole_boxed_ends t) ∙ w.ends) _ }
+pub returns-in-Ok-None-clause-some : goal.returns-in-Ok-None-clause-some
+returns-in-Ok-None-clause-some c = none-put _ (sym (ap some_ends c.in-Ok-None.field-0-is) ∙ c.in-Ok-None.ensures.ends)
 
-pub returns-in-ListLength : goal.returns-in-ListLength
-unfolding whole_boxed_number whole_boxed_ends
-returns-in-ListLength c =
-    let w = c.whole_box.ensures in
-    let t = c.in-ListLength.is in record { number = sym (ap whole_boxed_number t) ∙ w.number; key = refl; position = refl; some = refl; ends = ends-kept _ (sym (ap whole_boxed_ends t) ∙ w.ends) _ }
+pub returns-in-Ok-None-clause-ends : goal.returns-in-Ok-None-clause-ends
+returns-in-Ok-None-clause-ends c = ends-kept _ (sym (ap some_ends c.in-Ok-None.field-0-is) ∙ c.in-Ok-None.ensures.ends) _
 
-pub returns-in-NotFinite : goal.returns-in-NotFinite
-unfolding whole_boxed_number whole_boxed_ends
-returns-in-NotFinite c =
-    let w = c.whole_box.ensures in
-    let t = c.in-NotFinite.is in record { number = sym (ap whole_boxed_number t) ∙ w.number; key = refl; position = refl; some = refl; ends = ends-kept _ (sym (ap whole_boxed_ends t) ∙ w.ends) _ }
+pub returns-in-Err-clause-ends : goal.returns-in-Err-clause-ends
+returns-in-Err-clause-ends c = ends-kept _ c.in-Err.ensures.ends _

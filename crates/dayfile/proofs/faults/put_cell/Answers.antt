@@ -15,4 +15,5 @@ returns c =
     let xs = a.words.now in
     let v = a.v in
     let four : length v ≡ 4 = search rules in
-    let n = four-members (numbers v) (length-numbers v ∙ four) in record { c_after = stored_row xs a.c.0 _ _ _ _ (omega arith) ∙ sym (rw (← number_at v 0, ← number_at v 1, ← number_at v 2, ← number_at v 3) n); words_unchanged = stored-front xs a.c.0 _ _ _ _; words_unchanged_2 = stored-rest xs a.c.0 _ _ _ _; words_after = stored-long xs a.c.0 _ _ _ _ ∙ c.requires.1 }
+    let n = four-members (numbers v) (length-numbers v ∙ four) in
+    let whole : length xs ≡ 16384 = search rules in record { row = stored_row xs a.c.0 _ _ _ _ (omega arith) ∙ sym (rw (← number_at v 0, ← number_at v 1, ← number_at v 2, ← number_at v 3) n); before = stored-front xs a.c.0 _ _ _ _; behind = stored-rest xs a.c.0 _ _ _ _; long = stored-long xs a.c.0 _ _ _ _ ∙ whole }

@@ -1,5 +1,5 @@
 -- A part of the bytes as long as the file is filled, and the rest is left.
-use mathlib.Core.Path.{◌≡◌, sym}
+use mathlib.Core.Path.{◌≡◌}
 use Prim.Native.Nat.{◌<◌, ◌≤◌}
 use native.Mathlib.Omega.{arith}
 use lib.ListN.{length}
@@ -9,9 +9,6 @@ use Rattle.rules.specs.File.{head_length, file_bytes, put_file}
 use Rattle.rules.proofs.Head.{head-length-below}
 use borrow.Author.Rules.{rules}
 use Rattle.dayfile.proofs.written.write.Goals as goal
-
-pub slice_bounds-fill-end-then-n-room : goal.slice_bounds-fill-end-then-n-room
-slice_bounds-fill-end-then-n-room c = sym (length-take-le _ _ c.if-n-room.true)
 
 pub fill-requires : goal.fill-requires
 fill-requires c =

@@ -1,21 +1,20 @@
 -- The four faces of a tetrahedron.
-use mathlib.Core.Path.{◌≡◌, refl}
-use native.Mathlib.Omega.{arith}
+use Rattle.std.proofs.Common.{◌≡◌, arith}
 use Rattle.rules.specs.Lists.{choose}
 use Rattle.plain.proofs.candidates.face.Goals as goal
 
-pub returns-then-q-eq0 : goal.returns-then-q-eq0
+pub returns-in-0 : goal.returns-in-0
 unfolding choose
-returns-then-q-eq0 c = (rw c.if-q-eq0.true, refl)
+returns-in-0 c = rw c.in-0.is
 
-pub returns-then-q-eq1 : goal.returns-then-q-eq1
+pub returns-in-1 : goal.returns-in-1
 unfolding choose
-returns-then-q-eq1 c = (rw c.if-q-eq1.true, refl)
+returns-in-1 c = rw c.in-1.is
 
-pub returns-then-q-eq2 : goal.returns-then-q-eq2
+pub returns-in-2 : goal.returns-in-2
 unfolding choose
-returns-then-q-eq2 c = (rw c.if-q-eq2.true, refl)
+returns-in-2 c = rw c.in-2.is
 
-pub returns : goal.returns
+pub returns-in_default : goal.returns-in_default
 unfolding choose
-returns c = let e : c.args.q ≡ 3 = omega arith in (rw e, refl)
+returns-in_default c = let e : c.args.q ≡ 3 = omega arith in rw e

@@ -1,23 +1,22 @@
 -- The six edges of a tetrahedron: three at its first corner, and those of the opposite face.
-use mathlib.Core.Path.{refl, ◌∙◌}
+use Rattle.std.proofs.Common.{◌∙◌, arith}
 use Rattle.rules.specs.Lists.{choose}
-use native.Mathlib.Omega.{arith}
 use Rattle.plain.proofs.Corners.{edge-behind}
 use Rattle.plain.proofs.candidates.tetrahedron_edge.Goals as goal
 
-pub returns-then-q-eq0 : goal.returns-then-q-eq0
+pub returns-in-0 : goal.returns-in-0
 unfolding choose
-returns-then-q-eq0 c = (rw c.if-q-eq0.true, refl)
+returns-in-0 c = rw c.in-0.is
 
-pub returns-then-q-eq1 : goal.returns-then-q-eq1
+pub returns-in-1 : goal.returns-in-1
 unfolding choose
-returns-then-q-eq1 c = (rw c.if-q-eq1.true, refl)
+returns-in-1 c = rw c.in-1.is
 
-pub returns-then-q-eq2 : goal.returns-then-q-eq2
+pub returns-in-2 : goal.returns-in-2
 unfolding choose
-returns-then-q-eq2 c = (rw c.if-q-eq2.true, refl)
+returns-in-2 c = rw c.in-2.is
 
-pub returns : goal.returns
-returns c =
+pub returns-in_default : goal.returns-in_default
+returns-in_default c =
     let a = c.args in
-    (c.triangle_edge.ensures.0 ∙ edge-behind a.v a.w a.x a.y a.q (omega arith), c.triangle_edge.ensures.1)
+    c.triangle_edge.ensures ∙ edge-behind a.v a.w a.x a.y a.q (omega arith)

@@ -1,10 +1,7 @@
--- The invariant: of the members passed none has fewer uses than that at `best`.
-use Prim.Native.Nat.{◌-◌, ◌≤◌, ◌<◌}
+-- Of the members so far none has fewer uses than that at `best`.
+use Rattle.std.proofs.Common.{◌<◌, length}
 use Rattle.plain.proofs.Uses.{Fewest}
 use Rattle.plain.proofs.chains.rarest.Given as goal
 
 abbrev pub invariant-loop-k : goal.invariant-loop-k
-invariant-loop-k l = (l.k ≤ l.n) × ((l.best < l.n) × Fewest l.many l.set l.best l.k)
-
-abbrev pub decreases-loop-k : goal.decreases-loop-k
-decreases-loop-k l = l.n - l.k
+invariant-loop-k l = (l.best < length l.set) × Fewest l.many l.set l.best l.k

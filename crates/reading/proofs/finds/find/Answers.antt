@@ -1,61 +1,61 @@
--- A refusal of Row's is Find's; what Row accepts is searched.
+-- A refusal of Row's is Find's; what Row accepts is searched, in the part of the book that Row would hand back.
 use mathlib.Core.Path.{◌≡◌, refl, sym, ap, ◌∙◌}
-use mathlib.Core.Bool.{false}
-use mathlib.Core.List.{List}
-use Prim.Native.Nat.{ℕ, ◌<◌}
+use Prim.Native.Nat.{ℕ}
 use native.Mathlib.Omega.{arith}
-use lib.Dec.{eqb}
+use borrow.Author.Tests.{ne_eqb}
+use Rattle.rules.specs.Book.{key, row_of}
 use Rattle.rules.specs.Broken.{row_broken_at, told}
-use Rattle.rules.specs.Calls.{row_number, find_number, find_found, find_read}
-use Rattle.rules.proofs.Accepted.{find-refused}
-use Rattle.reading.specs.declared.answers.Found.{Found}
-use Rattle.reading.specs.Answers.{row_answer, row_answer_place, found_number, found_yes, found_read, found_place}
-use Rattle.reading.proofs.Alike.{found-bare}
-use Rattle.reading.proofs.RowCases.{find-as-row, accepted-told}
+use Rattle.rules.specs.Calls.{found_in, read_in, row_number, find_number}
+use Rattle.rules.proofs.AnyWords.{dim-most}
+use Rattle.rules.proofs.Accepted.{rowed, find-accepted, find-refused}
+use Rattle.rules.proofs.Told.{untold-as}
+use Rattle.kinds.specs.Refusals.{refusal_number, answer_number, answer_place, given}
+use Rattle.kinds.proofs.Determined.{handed-on, positive, refused-accepted}
+use Rattle.reading.proofs.RowCases.{find-0, find-19, find-as-row}
+use Rattle.reading.proofs.finds.find.Goals.{After-from_residual, After-count}
 use Rattle.reading.proofs.finds.find.Goals as goal
 
-pub search_row-requires : goal.search_row-requires
-unfolding row_answer
-search_row-requires c = sym c.row_answer.ensures.number ∙ ap row_answer c.in-Accepted.is
+accepted : (c : After-count) → row_number c.args.book.now c.args.d c.args.e c.args.i ≡ 0
+accepted c = sym c.in_ok-row_answer.ensures.number
 
-pub returns-in-Accepted : goal.returns-in-Accepted
-unfolding row_answer
-returns-in-Accepted c =
-    let r = c in
-    let a = r.args in
-    let s = c.search_row.ensures in
-    let z = sym r.row_answer.ensures.number ∙ ap row_answer c.in-Accepted.is in record { number = s.number; yes = s.yes; read = s.read; place = s.place ∙ accepted-told a.book.now a.d a.e a.i a.j z }
+pub returns-in_err-row_answer : goal.returns-in_err-row_answer
+returns-in_err-row_answer c =
+    let a = c.args in
+    let r = c.in_err-row_answer.field-0.0 in
+    let h = handed-on c.from_residual.result r c.from_residual.ensures.1 in
+    let n = c.in_err-row_answer.ensures.number in
+    let m = find-as-row a.book.now a.d a.e a.i (refusal_number r) a.j (ne_eqb (refusal_number r) 0 (refused-accepted r)) n in
+    let v = find-refused a.book.now a.d a.e a.i a.j (omega (arith, m, positive r)) in
+    record {
+      number = ap answer_number h ∙ m;
+      yes = ap (given _ _) h ∙ sym v.0;
+      read = ap (given _ _) h ∙ sym v.1;
+      place = ap answer_place h ∙ c.in_err-row_answer.ensures.place ∙ ap (λ (k : ℕ). told k (row_broken_at a.book.now a.d a.e a.i)) (sym n ∙ m);
+    }
 
--- a refusal with Row's number and Row's place is Find's answer
-refused : (ws : List ℕ) (d e i j : ℕ) (r : Found) → eqb (found_number r) 0 ≡ false → found_number r ≡ row_number ws d e i → found_place r ≡ told (row_number ws d e i) (row_broken_at ws d e i) → 0 < found_number r
-    → (found_number r ≡ find_number ws d e i j) × ((found_yes r ≡ find_found ws d e i j) × ((found_read r ≡ find_read ws d e i j) × (found_place r ≡ told (find_number ws d e i j) (row_broken_at ws d e i))))
-refused ws d e i j r h n p l =
-    let m = find-as-row ws d e i (found_number r) j h n in
-    let b = found-bare r l in
-    let v = find-refused ws d e i j (rw m at l) in
-    (m, (b.0 ∙ sym v.0, (b.1 ∙ sym v.1, p ∙ ap (λ (x : ℕ). told x (row_broken_at ws d e i)) (sym n ∙ m))))
+pub returns-then-j-count : goal.returns-then-j-count
+returns-then-j-count c =
+    let a = c.args in
+    let e = find-19 a.book.now a.d a.e a.i a.j (accepted (goal.at.returns-then-j-count c).After-count) (omega (arith, c.if-j-count.true, c.count.ensures)) in
+    let v = find-refused a.book.now a.d a.e a.i a.j (omega arith) in
+    record { number = e; yes = sym v.0; read = sym v.1; place = untold-as 19 _ _ refl e }
 
-pub returns-in-FrameBroken : goal.returns-in-FrameBroken
-unfolding row_answer row_answer_place found_number found_place
-returns-in-FrameBroken c =
-    let r = c.row_answer.ensures in let all = refused _ _ _ _ _ _ refl (sym (ap row_answer c.in-FrameBroken.is) ∙ r.number) (sym (ap row_answer_place c.in-FrameBroken.is) ∙ r.place) (omega arith) in record { number = all.0; yes = all.1.0; read = all.1.1.0; place = all.1.1.1 }
+pub key-requires : goal.key-requires
+key-requires c =
+    let a = c.args in
+    let m = dim-most a.book.now (λ i. (c.type_inv.book i).fits) in
+    let r = rowed a.book.now a.d a.e a.i (accepted (goal.at.key-requires c).After-count) in
+    (omega (arith, m, r.first), omega (arith, m, r.second))
 
-pub returns-in-DimensionOver : goal.returns-in-DimensionOver
-unfolding row_answer row_answer_place found_number found_place
-returns-in-DimensionOver c =
-    let r = c.row_answer.ensures in let all = refused _ _ _ _ _ _ refl (sym (ap row_answer c.in-DimensionOver.is) ∙ r.number) (sym (ap row_answer_place c.in-DimensionOver.is) ∙ r.place) (omega arith) in record { number = all.0; yes = all.1.0; read = all.1.1.0; place = all.1.1.1 }
-
-pub returns-in-NotHeld : goal.returns-in-NotHeld
-unfolding row_answer row_answer_place found_number found_place
-returns-in-NotHeld c =
-    let r = c.row_answer.ensures in let all = refused _ _ _ _ _ _ refl (sym (ap row_answer c.in-NotHeld.is) ∙ r.number) (sym (ap row_answer_place c.in-NotHeld.is) ∙ r.place) (omega arith) in record { number = all.0; yes = all.1.0; read = all.1.1.0; place = all.1.1.1 }
-
-pub returns-in-NoSuchEntity : goal.returns-in-NoSuchEntity
-unfolding row_answer row_answer_place found_number found_place
-returns-in-NoSuchEntity c =
-    let r = c.row_answer.ensures in let all = refused _ _ _ _ _ _ refl (sym (ap row_answer c.in-NoSuchEntity.is) ∙ r.number) (sym (ap row_answer_place c.in-NoSuchEntity.is) ∙ r.place) (omega arith) in record { number = all.0; yes = all.1.0; read = all.1.1.0; place = all.1.1.1 }
-
-pub returns-in-RowsBroken : goal.returns-in-RowsBroken
-unfolding row_answer row_answer_place found_number found_place
-returns-in-RowsBroken c =
-    let r = c.row_answer.ensures in let all = refused _ _ _ _ _ _ refl (sym (ap row_answer c.in-RowsBroken.is) ∙ r.number) (sym (ap row_answer_place c.in-RowsBroken.is) ∙ r.place) (omega arith) in record { number = all.0; yes = all.1.0; read = all.1.1.0; place = all.1.1.1 }
+pub returns : goal.returns
+returns c =
+    let a = c.args in
+    let z : find_number a.book.now a.d a.e a.i a.j ≡ 0 = find-0 a.book.now a.d a.e a.i a.j (accepted (goal.at.returns c).After-count) (omega (arith, c.if-j-count.false, c.count.ensures)) in
+    let v = find-accepted a.book.now a.d a.e a.i a.j z in
+    let w : c.row.result.now ≡ row_of a.book.now (key a.d a.e) a.i = c.row.ensures.words ∙ ap (λ (k : ℕ). row_of a.book.now k a.i) c.key.ensures in
+    record {
+      number = sym z;
+      yes = c.search.ensures.yes ∙ ap (found_in a.j) w ∙ sym v.0;
+      read = c.search.ensures.read ∙ ap (read_in a.j) w ∙ sym v.1;
+      place = untold-as 0 _ _ refl (sym z);
+    }

@@ -1,6 +1,6 @@
 -- Where the number is 0 the row lies within the book; else the part is empty, at the book's start.
 use mathlib.Core.Path.{◌≡◌, refl, sym, ap, ◌∙◌}
-use Prim.Native.Nat.{ℕ, ◌+◌, ◌*◌, min}
+use Prim.Native.Nat.{ℕ, min, ◌+◌, ◌*◌}
 use native.Mathlib.Omega.{arith}
 use lib.ListN.{length}
 use borrow.Author.Tests.{eq-eqb, ne_eqb}
@@ -8,16 +8,19 @@ use Rattle.rules.specs.Book.{row_of, row_start}
 use Rattle.rules.specs.Calls.{row_number, row_part}
 use Rattle.rules.proofs.AnyWords.{dim-most}
 use Rattle.rules.proofs.Accepted.{rowed}
+use Rattle.kinds.proofs.Determined.{erred, given-none}
 use Rattle.reading.proofs.RowCases.{row_within}
+use Rattle.reading.proofs.parts.row.Goals.{Else-is_err}
 use Rattle.reading.proofs.parts.row.Goals as goal
 
-pub returns-then-row_number-ne0 : goal.returns-then-row_number-ne0
+accepted : (c : Else-is_err) → row_number c.args.book.now c.args.d c.args.e c.args.i ≡ 0
+accepted c = sym c.row_answer.ensures.number ∙ given-none c.row_answer.result (sym c.is_err.ensures.value ∙ c.if-is_err.false)
+
+pub returns-then-is_err : goal.returns-then-is_err
 unfolding row_part
-returns-then-row_number-ne0 c =
-    let number_is : let a = c.args in c.row_number.result ≡ row_number a.book.now a.d a.e a.i =
-    c.row_number.ensures ∙ c.row_answer.ensures.number in
+returns-then-is_err c =
     let a = c.args in
-    let n : row_number a.book.now a.d a.e a.i ≡ 0 → ⊥ = λ z. c.if-row_number-ne0.true (number_is ∙ z) in
+    let n : row_number a.book.now a.d a.e a.i ≡ 0 → ⊥ = λ z. erred c.row_answer.result (sym c.is_err.ensures.value ∙ c.if-is_err.true) (c.row_answer.ensures.number ∙ z) in
     record {
       words = rw (ne_eqb (row_number a.book.now a.d a.e a.i) 0 n);
       block = refl;
@@ -26,25 +29,17 @@ returns-then-row_number-ne0 c =
 
 pub key-requires : goal.key-requires
 key-requires c =
-    let number_is : let a = c.args in c.row_number.result ≡ row_number a.book.now a.d a.e a.i =
-    c.row_number.ensures ∙ c.row_answer.ensures.number in
-    let accepted : let a = c.args in row_number a.book.now a.d a.e a.i ≡ 0 =
-    sym (number_is) ∙ c.if-row_number-ne0.false in
     let a = c.args in
     let m = dim-most a.book.now (λ i. (c.type_inv.book i).fits) in
-    let r = rowed a.book.now a.d a.e a.i (accepted) in
+    let r = rowed a.book.now a.d a.e a.i (accepted (goal.at.key-requires c).Else-is_err) in
     (omega (arith, m, r.first), omega (arith, m, r.second))
 
 pub returns : goal.returns
 unfolding row_part
 returns c =
-    let number_is : let a = c.args in c.row_number.result ≡ row_number a.book.now a.d a.e a.i =
-    c.row_number.ensures ∙ c.row_answer.ensures.number in
-    let accepted : let a = c.args in row_number a.book.now a.d a.e a.i ≡ 0 =
-    sym (number_is) ∙ c.if-row_number-ne0.false in
     let a = c.args in
     let b = a.book.now in
-    let z = accepted in
+    let z = accepted (goal.at.returns c).Else-is_err in
     let k = c.key.ensures in
     let l = row_within b a.d a.e a.i z in
     record {

@@ -4,7 +4,6 @@ use Rattle.reading.proofs.writes.put_file.Goals as goal
 
 pub returns : goal.returns
 returns c =
-    let w = c in
-    let n = w in
-    let s = n in
-    file-put s.args.book.now s.requires.0 s.args.bytes.now _ _ (rw n.word.ensures at w.write.ensures.0) (rw (n.word.ensures, n.cells.ensures) at w.write.ensures.1)
+    file-put c.args.book.now c.words.ensures.right.frame c.args.bytes.now _ _
+    (rw (c.word.ensures, c.words.ensures.words) at c.write.ensures.0)
+    (rw (c.word.ensures, c.words.ensures.words, c.cells.ensures, c.words-2.ensures.words) at c.write.ensures.1)

@@ -1,75 +1,36 @@
--- The frame, the rows, then the file with or without room.
-use mathlib.Core.Path.{◌≡◌, refl, sym, ap, ◌∙◌}
-use mathlib.Core.Bool.{true}
-use Rattle.rules.specs.Book.{frame_right, rows_right}
-use Rattle.rules.proofs.Told.{none_right, some-wrong, told-eleven, untold-as}
-use Rattle.book.proofs.Flags.{off, on}
-use Rattle.rows.specs.Answers.{rows_place}
-use Rattle.reading.specs.Answers.{written_number, written_place, written_length}
-use Rattle.reading.proofs.Writing.{frame-broken, rows-broken, too_short, all-put}
+-- What is not right is refused as the words decide; then the file, with or without room.
+use mathlib.Core.Path.{refl}
+use Rattle.rules.specs.Book.{Right}
+use Rattle.rules.specs.Calls.{write_number, write_rules, write_bytes}
+use Rattle.rules.proofs.Told.{untold-as}
+use Rattle.right.proofs.Checks.{refuses}
+use Rattle.reading.specs.Parts.{FilePut}
+use Rattle.reading.proofs.Writing.{too_short, all-put}
+use Rattle.reading.proofs.writes.write.Goals.{After-put_file-n}
 use Rattle.reading.proofs.writes.write.Goals as goal
 
-pub returns-then-not-frame_right : goal.returns-then-not-frame_right
-unfolding written_number written_place written_length
-returns-then-not-frame_right c =
-    let a = c.args in
-    let g = frame-broken a.book.now a.bytes.now (off c.frame_right.ensures c.if-not-frame_right.true) in record { number = g.number_is; place = untold-as 10 _ _ refl g.number_is; length = g.length-is; bytes = g.bytes-are }
+right : (c : After-put_file-n) → Right c.args.book.now
+right c = rw c.in_ok-check.ensures.words at c.in_ok-check.ensures.right
 
-pub broken_at-requires : goal.broken_at-requires
-broken_at-requires c =
-    let framed : frame_right c.args.book.now ≡ true =
-    on c.frame_right.ensures c.if-not-frame_right.false in
-    framed
+filed : (c : After-put_file-n) → FilePut c.args.book.now c.args.bytes.now c.put_file-n.result c.put_file-n.new.bytes
+filed c = rw c.in_ok-check.ensures.words at c.put_file-n.ensures
 
-pub returns-in-BrokenAt : goal.returns-in-BrokenAt
-unfolding written_number written_place written_length rows_place
-returns-in-BrokenAt c =
-    let framed : frame_right c.args.book.now ≡ true =
-    on c.frame_right.ensures c.if-not-frame_right.false in
-    let b = c in
-    let a = b.args in
-    let p = sym (ap rows_place c.in-BrokenAt.is) ∙ b.broken_at.ensures in
-    let f = framed in
-    let g = rows-broken a.book.now a.bytes.now f (some-wrong a.book.now f _ (sym p)) in record { number = g.number_is; place = p ∙ told-eleven _ _ g.number_is; length = g.length-is; bytes = g.bytes-are }
-
-pub put_file-n-requires : goal.put_file-n-requires
-unfolding rows_place
-put_file-n-requires c =
-    let framed : frame_right c.args.book.now ≡ true =
-    on c.frame_right.ensures c.if-not-frame_right.false in
-    let frame : frame_right c.args.book.now ≡ true =
-    framed in
-    let rowed : rows_right c.args.book.now ≡ true =
-    let b = c in
-    none_right b.args.book.now (framed) (sym b.broken_at.ensures ∙ ap rows_place c.in_default.is) in
-    (frame, rowed)
+pub returns-in_err-check : goal.returns-in_err-check
+unfolding write_number write_rules write_bytes
+returns-in_err-check c =
+    let r = refuses c.args.book.now _ _ _ c.from_residual.ensures.1 c.in_err-check.ensures.number c.in_err-check.ensures.place in
+    record { number = r.number; place = r.place; length = rw r.is (record {}); bytes = rw r.some }
 
 pub returns-then-bytes-n : goal.returns-then-bytes-n
-unfolding written_number written_place written_length rows_place
 returns-then-bytes-n c =
-    let framed : frame_right c.args.book.now ≡ true =
-    on c.frame_right.ensures c.if-not-frame_right.false in
-    let frame : frame_right c.args.book.now ≡ true =
-    framed in
-    let rowed : rows_right c.args.book.now ≡ true =
-    let b = c in
-    none_right b.args.book.now (framed) (sym b.broken_at.ensures ∙ ap rows_place c.in_default.is) in
-    let p = c in
-    let r = p in
-    let a = r.args in
-    let g = too_short a.book.now a.bytes.now (frame) (rowed) _ _ p.put_file-n.ensures (rw p.put_file-n.auto.bytes at c.if-bytes-n.true) in record { number = g.number_is; place = untold-as 18 _ _ refl g.number_is; length = g.length-is; bytes = g.bytes-are }
+    let p = (goal.at.returns-then-bytes-n c).After-put_file-n in
+    let r = right p in
+    let g = too_short c.args.book.now c.args.bytes.now r.frame r.rows _ _ (filed p) (rw c.put_file-n.auto.bytes at c.if-bytes-n.true) in
+    record { number = g.number_is; place = untold-as 18 _ _ refl g.number_is; length = record {}; bytes = g.bytes-are }
 
 pub returns : goal.returns
-unfolding written_number written_place written_length rows_place
 returns c =
-    let framed : frame_right c.args.book.now ≡ true =
-    on c.frame_right.ensures c.if-not-frame_right.false in
-    let frame : frame_right c.args.book.now ≡ true =
-    framed in
-    let rowed : rows_right c.args.book.now ≡ true =
-    let b = c in
-    none_right b.args.book.now (framed) (sym b.broken_at.ensures ∙ ap rows_place c.in_default.is) in
-    let p = c in
-    let r = p in
-    let a = r.args in
-    let g = all-put a.book.now a.bytes.now (frame) (rowed) _ _ p.put_file-n.ensures (rw p.put_file-n.auto.bytes at c.if-bytes-n.false) in record { number = g.number_is; place = untold-as 0 _ _ refl g.number_is; length = g.length-is; bytes = g.bytes-are }
+    let p = (goal.at.returns c).After-put_file-n in
+    let r = right p in
+    let g = all-put c.args.book.now c.args.bytes.now r.frame r.rows _ _ (filed p) (rw c.put_file-n.auto.bytes at c.if-bytes-n.false) in
+    record { number = g.number_is; place = untold-as 0 _ _ refl g.number_is; length = g.length-is refl; bytes = g.bytes-are }

@@ -4,10 +4,10 @@ use mathlib.Core.List.{List, [], ◌++◌, append-nil}
 use Prim.Native.Nat.{ℕ, zero, suc, ◌+◌, ◌*◌, ◌≤◌, ◌<◌}
 use native.Mathlib.Numerals.{add-one}
 use native.Mathlib.Omega.{arith}
-use lib.ListN.{length, drop, length-append, length-drop, length-map}
+use lib.ListN.{length, drop, length-append, length-map}
 use lib.Seq.{sets, drop-length}
 use Rattle.rules.specs.Lists.{up_to, joined}
-use Rattle.rules.specs.Book.{count, key}
+use Rattle.rules.specs.Book.{count}
 use Rattle.rules.specs.Sheet.{across, Sheet}
 use Rattle.rules.proofs.Joined.{joined-more, put-behind}
 use Rattle.rules.proofs.SheetAccepted.{three-edges}
@@ -31,59 +31,27 @@ module _ (ws : List ℕ) (a : Sheet ws) where
         ∙ put-behind (sides ws c) (side ws c) out (omega (arith, n, side-three c l))
         ∙ rw (joined-more (side ws) c)
 
-  front_long : (out : List ℕ) → length out ≡ 3 * count ws 2 → (c : ℕ) → c ≤ count ws 2 → length (sides ws c ++ drop (length (sides ws c)) out) ≡ length out
-  front_long out long c l = rw (length-append, length-drop) (omega (arith, sides-length c l))
-
   all-sides : (out : List ℕ) → length out ≡ 3 * count ws 2 → sides ws (count ws 2) ++ drop (length (sides ws (count ws 2))) out ≡ across ws
   unfolding across
   all-sides out long =
       let e : drop (length (sides ws (count ws 2))) out ≡ [] = let n : length (sides ws (count ws 2)) ≡ length out = omega (arith, sides-length (count ws 2) (omega arith)) in rw (n, drop-length) in
       rw (e, append-nil)
 
-pub stand_of-edges-requires : goal.stand_of-edges-requires
-unfolding key
-stand_of-edges-requires c = let f = c.requires.fact_1.flat in record { fact_1 = (f.frame, f.rows); fact_2 = f.edges }
-
-pub stand_of-cells-requires : goal.stand_of-cells-requires
-unfolding key
-stand_of-cells-requires c = let f = c.requires.fact_1.flat in record { fact_1 = (f.frame, f.rows); fact_2 = f.cells }
-
 pub loop-c-init : goal.loop-c-init
-loop-c-init c = (omega arith, unfold up_to joined in refl)
-
-pub put_across-requires : goal.put_across-requires
-put_across-requires c =
-    let t = c.loop-c in
-    let l : t.c < count c.args.book.now 2 = omega (arith, c.loop-c-test.true, c.count-n.ensures) in
-    let e = c.stand_of-edges.ensures in
-    let k = c.stand_of-cells.ensures in
-    let long = ap length t.invariant.1 ∙ front_long c.args.book.now c.requires.fact_1 c.args.out.now c.requires.fact_2 t.c (omega arith) ∙ c.requires.fact_2 in record { fact_1 = c.requires.fact_1; fact_2 = (e.stands, e.key); fact_3 = (k.stands, k.key); fact_4 = l; fact_5 = long }
-
-pub overflow_add-c : goal.overflow_add-c
-overflow_add-c c = omega (arith, c.loop-c-test.true)
-
-pub loop-c-smaller : goal.loop-c-smaller
-loop-c-smaller c = omega (arith, c.loop-c-test.true)
+loop-c-init c = unfold up_to joined in refl
 
 pub loop-c-preserved : goal.loop-c-preserved
 loop-c-preserved c =
     let t = c.loop-c in
-    let l : t.c < count c.args.book.now 2 = omega (arith, c.loop-c-test.true, c.count-n.ensures) in (
-      omega (arith, c.loop-c-test.true),
-      c.put_across.ensures
-          ∙ ap (λ (o : List ℕ). sets o (3 * t.c) (side c.args.book.now t.c)) t.invariant.1
-          ∙ put-more c.args.book.now c.requires.fact_1 c.args.out.now c.requires.fact_2 t.c l,
-    )
-
-pub shape_of-out : goal.shape_of-out
-shape_of-out c =
-    let t = c.loop-c in
-    ap length t.invariant.1 ∙ front_long c.args.book.now c.requires.fact_1 c.args.out.now c.requires.fact_2 t.c (omega (arith, t.invariant.0, c.count-n.ensures))
+    let l : t.c < count c.args.triangles.now.book.now 2 = omega arith in
+    c.put_across.ensures
+    ∙ ap (λ (o : List ℕ). sets o (3 * t.c) (side c.args.triangles.now.book.now t.c)) t.invariant
+    ∙ put-more c.args.triangles.now.book.now c.requires.sheet c.args.out.now c.requires.room t.c l
 
 pub returns : goal.returns
 returns c =
     let t = c.loop-c in
-    let e : t.c ≡ count c.args.book.now 2 = omega (arith, t.invariant.0, c.loop-c-test.false, c.count-n.ensures) in
-    t.invariant.1
-    ∙ ap (λ (n : ℕ). sides c.args.book.now n ++ drop (length (sides c.args.book.now n)) c.args.out.now) e
-    ∙ all-sides c.args.book.now c.requires.fact_1 c.args.out.now c.requires.fact_2
+    let e : t.c ≡ count c.args.triangles.now.book.now 2 = omega arith in
+    t.invariant
+    ∙ ap (λ (n : ℕ). sides c.args.triangles.now.book.now n ++ drop (length (sides c.args.triangles.now.book.now n)) c.args.out.now) e
+    ∙ all-sides c.args.triangles.now.book.now c.requires.sheet c.args.out.now c.requires.room

@@ -1,7 +1,7 @@
 -- The invariant: the cells across from the cells passed stand at the front, and the rest as it was.
 use mathlib.Core.Path.{◌≡◌}
 use mathlib.Core.List.{List, ◌++◌, map}
-use Prim.Native.Nat.{ℕ, ◌-◌, ◌≤◌}
+use Prim.Native.Nat.{ℕ}
 use lib.ListN.{length, drop}
 use Rattle.rules.specs.Lists.{up_to, joined}
 use Rattle.rules.specs.Sheet.{edges_of, across_at}
@@ -15,7 +15,4 @@ abbrev pub sides : List ℕ → ℕ → List ℕ
 sides ws c = joined (map (side ws) (up_to c))
 
 abbrev pub invariant-loop-c : goal.invariant-loop-c
-invariant-loop-c l = (l.c ≤ l.n) × (l.out ≡ sides l.book l.c ++ drop (length (sides l.book l.c)) l.initial.out)
-
-abbrev pub decreases-loop-c : goal.decreases-loop-c
-decreases-loop-c l = l.n - l.c
+invariant-loop-c l = l.out ≡ sides l.triangles.book.now l.c ++ drop (length (sides l.triangles.book.now l.c)) l.initial.out

@@ -6,7 +6,7 @@ use mathlib.Core.List.{List}
 use Prim.Native.Nat.{ℕ, ◌+◌, ◌<◌}
 use native.Mathlib.Numerals.{add-one}
 use native.Mathlib.Omega.{arith}
-use lib.ListN.{length, get_or, set, length-set}
+use lib.ListN.{length, get_or, set}
 use lib.Dec.{eqb, ltb}
 use lib.Seq.{get_or-set_same, get_or-set_other}
 use borrow.Author.Tests.{ltb-true}
@@ -35,62 +35,19 @@ module _ (vertices : List ℕ) (up : ascends vertices ≡ true) where
       let m = has-is v vertices i in
       sym (ap (λ (u : ℕ). get_or numbers u 0) (rank-at v 0 vertices m)) ∙ h (first_at (eqb v) vertices) (rank_below v vertices m)
 
-pub loop-i-init : goal.loop-i-init
-loop-i-init c = (omega arith, c.requires.fact_4, λ j l. absurd (omega arith))
-
-pub overflow_cast-numbers : goal.overflow_cast-numbers
-overflow_cast-numbers c = omega (arith, c.loop-i-test.true, c.requires.fact_3)
-
-pub offset_bounds-vertices-i : goal.offset_bounds-vertices-i
-offset_bounds-vertices-i c = omega (arith, c.loop-i-test.true, c.requires.fact_3)
-
-pub bounds-vertices-i : goal.bounds-vertices-i
-bounds-vertices-i c = c.loop-i-test.true
-
-pub overflow_cast-numbers-in-loop-i : goal.overflow_cast-numbers-in-loop-i
-overflow_cast-numbers-in-loop-i c =
-    let known : get_or c.args.vertices.now c.loop-i.i 0 < 8192 =
-    let t = c.loop-i in
-    let l = c.loop-i-test.true in
-    ltb-true _ _ (all-place (λ v. ltb v 8192) c.args.vertices.now 0 c.requires.fact_2 t.i l) in
-    omega (arith, known)
-
-pub offset_bounds-numbers-vertices : goal.offset_bounds-numbers-vertices
-offset_bounds-numbers-vertices c =
-    let known : get_or c.args.vertices.now c.loop-i.i 0 < 8192 =
-    let t = c.loop-i in
-    let l = c.loop-i-test.true in
-    ltb-true _ _ (all-place (λ v. ltb v 8192) c.args.vertices.now 0 c.requires.fact_2 t.i l) in
-    omega (arith, known)
-
-pub bounds-numbers-vertices : goal.bounds-numbers-vertices
-bounds-numbers-vertices c =
-    let known : get_or c.args.vertices.now c.loop-i.i 0 < 8192 =
-    let t = c.loop-i in
-    let l = c.loop-i-test.true in
-    ltb-true _ _ (all-place (λ v. ltb v 8192) c.args.vertices.now 0 c.requires.fact_2 t.i l) in
-    known
-
-pub overflow_add-i : goal.overflow_add-i
-overflow_add-i c = omega (arith, c.loop-i-test.true, c.requires.fact_3)
-
-pub loop-i-smaller : goal.loop-i-smaller
-loop-i-smaller c = omega (arith, c.loop-i-test.true)
+pub bounds-numbers-v : goal.bounds-numbers-v
+bounds-numbers-v c = ltb-true _ _ (all-place (λ v. ltb v 8192) c.args.vertices.now 0 c.requires.low c.loop-i.i (omega arith))
 
 pub loop-i-preserved : goal.loop-i-preserved
 loop-i-preserved c =
-    let known : get_or c.args.vertices.now c.loop-i.i 0 < 8192 =
     let t = c.loop-i in
-    let l = c.loop-i-test.true in
-    ltb-true _ _ (all-place (λ v. ltb v 8192) c.args.vertices.now 0 c.requires.fact_2 t.i l) in
-    let t = c.loop-i in
-    let l = c.loop-i-test.true in (
-      omega arith,
-      simp length-set t.invariant.1,
-      placed-more c.args.vertices.now c.requires.fact_1 t.i t.numbers l (omega (arith, t.invariant.1, known)) t.invariant.2,
-    )
+    let vs = c.args.vertices.now in
+    let low : get_or vs t.i 0 < 8192 = ltb-true _ _ (all-place (λ v. ltb v 8192) vs 0 c.requires.low t.i (omega arith)) in
+    placed-more vs c.requires.ascending t.i t.numbers (omega arith) (omega (arith, low)) t.invariant
 
 pub returns : goal.returns
 returns c =
     let t = c.loop-i in
-    let e : t.i ≡ length c.args.vertices.now = omega (arith, t.invariant.0, c.loop-i-test.false) in record { numbers = placed-all c.args.vertices.now c.requires.fact_1 t.numbers (rw e at t.invariant.2); length = t.invariant.1 }
+    let vs = c.args.vertices.now in
+    let e : t.i ≡ length vs = omega arith in
+    placed-all vs c.requires.ascending t.numbers (rw e at t.invariant)

@@ -1,8 +1,8 @@
 -- The invariant: the vertices passed have their places.
 use mathlib.Core.Path.{◌≡◌}
 use mathlib.Core.List.{List}
-use Prim.Native.Nat.{ℕ, ◌-◌, ◌≤◌, ◌<◌}
-use lib.ListN.{length, get_or}
+use Prim.Native.Nat.{ℕ, ◌<◌}
+use lib.ListN.{get_or}
 use Rattle.sheets.proofs.rims.number.Given as goal
 
 -- the first n vertices have their places
@@ -10,7 +10,4 @@ abbrev pub Placed : List ℕ → ℕ → List ℕ → Type 0
 Placed vertices n numbers = (j : ℕ) → j < n → get_or numbers (get_or vertices j 0) 0 ≡ j
 
 abbrev pub invariant-loop-i : goal.invariant-loop-i
-invariant-loop-i l = (l.i ≤ length l.vertices) × (length l.numbers ≡ 8192) × Placed l.vertices l.i l.numbers
-
-abbrev pub decreases-loop-i : goal.decreases-loop-i
-decreases-loop-i l = length l.vertices - l.i
+invariant-loop-i l = Placed l.vertices l.i l.numbers

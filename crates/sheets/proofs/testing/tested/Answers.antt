@@ -1,77 +1,64 @@
 -- The lowest vertex, edge and cell that do not pass, looked at in that order.
-use mathlib.Core.Path.{◌≡◌, ap, ◌∙◌}
-use mathlib.Core.List.{[], ◌∷◌}
+use mathlib.Core.Path.{◌≡◌, sym, ap, ◌∙◌}
+use mathlib.Core.List.{List, [], ◌∷◌}
 use mathlib.Core.Bool.{false}
 use Prim.Native.Nat.{ℕ}
 use native.Mathlib.Omega.{arith}
-use Rattle.rules.specs.Lists.{up_to, any_of}
-use Rattle.rules.specs.Book.{count, key}
+use Rattle.rules.specs.Lists.{up_to, any_of, first_at}
+use Rattle.rules.specs.Book.{count}
 use Rattle.rules.specs.Calls.{first_broken}
 use Rattle.rules.specs.Sheet.{unused, branched, unmatched}
-use Rattle.sheets.specs.Answers.{by_entities, why_answer, tested_answer}
+use Rattle.std.specs.Prelude.{Option, None}
+use Rattle.kinds.specs.Lowest.{lowest_below}
+use Rattle.kinds.proofs.Lowest.{found-below, none-below}
+use Rattle.sheets.specs.Answers.{by_entities}
 use Rattle.sheets.proofs.Looked.{found-off, none-off, passed-off}
 use Rattle.sheets.proofs.testing.tested.Goals as goal
+use Rattle.sheets.proofs.testing.tested.Goals.{After-first_branched-branched, After-first_unmatched}
 
-pub stand_of-cells-requires : goal.stand_of-cells-requires
-unfolding key
-stand_of-cells-requires c = let f = c.requires in record { fact_1 = (f.frame, f.rows); fact_2 = f.cells }
+-- what was found is the book's
+branched-is : (c : After-first_branched-branched) → let ws = c.args.book.now in c.first_branched-branched.result ≡ lowest_below (λ v. v) (count ws 1) (first_at (branched ws) (up_to (count ws 1)))
+branched-is c = let e = c.of-triangles.ensures in rw e at c.first_branched-branched.ensures
 
-pub first_branched-k-requires : goal.first_branched-k-requires
-first_branched-k-requires c = record { fact_1 = c.stand_of-cells.ensures.stands; fact_2 = c.stand_of-cells.ensures.key }
+unmatched-is : (c : After-first_unmatched) → let ws = c.args.book.now in c.first_unmatched.result ≡ lowest_below (λ v. v) (count ws 2) (first_at (unmatched ws) (up_to (count ws 2)))
+unmatched-is c = let e = c.of-triangles.ensures in rw e at c.first_unmatched.ensures
 
-pub returns-then-v-count : goal.returns-then-v-count
-unfolding tested_answer why_answer by_entities
-returns-then-v-count c =
+pub returns-in-Some : goal.returns-in-Some
+unfolding by_entities
+returns-in-Some c =
     let ws = c.args.book.now in
-    ap (λ (x : ℕ). 28 ∷ 2 ∷ x ∷ []) c.first_unused-v.ensures
-    ∙ found-off 2 (count ws 0) (unused ws) _ _ (omega (arith, c.first_unused-v.ensures))
+    let (l, e) = found-below (λ v. v) (count ws 0) _ c.in-Some.v (sym c.in-Some.is ∙ (rw c.words.ensures.words at c.first_unused-unused.ensures)) in
+    ap (λ (x : ℕ). 28 ∷ 2 ∷ x ∷ []) e ∙ found-off 2 (count ws 0) (unused ws) _ _ l
 
-pub returns-then-k-count : goal.returns-then-k-count
-unfolding tested_answer why_answer by_entities
-returns-then-k-count c =
-    let used : let ws = c.args.book.now in any_of (unused ws) (up_to (count ws 0)) ≡ false =
-    let ws = c.args.book.now in
-    none-off (count ws 0) (unused ws) (λ l. omega (arith, c.first_unused-v.ensures)) in
-    let ws = c.args.book.now in
-    ap (λ (x : ℕ). 28 ∷ 3 ∷ x ∷ []) c.first_branched-k.ensures
-    ∙ found-off 3 (count ws 1) (branched ws) _ _ (omega (arith, c.first_branched-k.ensures))
-    ∙ passed-off 2 (count ws 0) (unused ws) _ _ used
+-- where no vertex was found, and no edge
+used : (ws : List ℕ) (r : Option ℕ) → r ≡ None → r ≡ lowest_below (λ v. v) (count ws 0) (first_at (unused ws) (up_to (count ws 0))) → any_of (unused ws) (up_to (count ws 0)) ≡ false
+used ws r n e = let l = none-below (λ v. v) (count ws 0) _ (sym n ∙ e) in none-off (count ws 0) (unused ws) (λ k. omega arith)
 
-pub stand_of-requires : goal.stand_of-requires
-unfolding key
-stand_of-requires c = let f = c.requires in record { fact_1 = (f.frame, f.rows); fact_2 = f.edges }
+plain : (ws : List ℕ) (r : Option ℕ) → r ≡ None → r ≡ lowest_below (λ v. v) (count ws 1) (first_at (branched ws) (up_to (count ws 1))) → any_of (branched ws) (up_to (count ws 1)) ≡ false
+plain ws r n e = let l = none-below (λ v. v) (count ws 1) _ (sym n ∙ e) in none-off (count ws 1) (branched ws) (λ k. omega arith)
 
-pub first_unmatched-c-requires : goal.first_unmatched-c-requires
-first_unmatched-c-requires c =
-    let plain : let ws = c.args.book.now in any_of (branched ws) (up_to (count ws 1)) ≡ false =
+pub returns-in-Some-branched : goal.returns-in-Some-branched
+unfolding by_entities
+returns-in-Some-branched c =
     let ws = c.args.book.now in
-    none-off (count ws 1) (branched ws) (λ l. omega (arith, c.first_branched-k.ensures)) in
-    let t = c.stand_of-cells.ensures in record { fact_1 = (c.stand_of.ensures.stands, c.stand_of.ensures.key); fact_2 = (t.stands, t.key); fact_3 = plain }
+    let (l, e) = found-below (λ v. v) (count ws 1) _ c.in-Some-branched.k (sym c.in-Some-branched.is ∙ (branched-is (goal.at.returns-in-Some-branched c).After-first_branched-branched)) in
+    ap (λ (x : ℕ). 28 ∷ 3 ∷ x ∷ []) e
+    ∙ found-off 3 (count ws 1) (branched ws) _ _ l
+    ∙ passed-off 2 (count ws 0) (unused ws) _ _ (used ws _ c.in_default.is (rw c.words.ensures.words at c.first_unused-unused.ensures))
 
-pub returns-then-c-count : goal.returns-then-c-count
-unfolding tested_answer why_answer by_entities
-returns-then-c-count c =
-    let used : let ws = c.args.book.now in any_of (unused ws) (up_to (count ws 0)) ≡ false =
+pub returns-in-Some-first_unmatched : goal.returns-in-Some-first_unmatched
+unfolding by_entities
+returns-in-Some-first_unmatched c =
     let ws = c.args.book.now in
-    none-off (count ws 0) (unused ws) (λ l. omega (arith, c.first_unused-v.ensures)) in
-    let plain : let ws = c.args.book.now in any_of (branched ws) (up_to (count ws 1)) ≡ false =
-    let ws = c.args.book.now in
-    none-off (count ws 1) (branched ws) (λ l. omega (arith, c.first_branched-k.ensures)) in
-    let ws = c.args.book.now in
-    ap (λ (x : ℕ). 28 ∷ 4 ∷ x ∷ []) c.first_unmatched-c.ensures
-    ∙ found-off 4 (count ws 2) (unmatched ws) _ _ (omega (arith, c.first_unmatched-c.ensures))
-    ∙ passed-off 3 (count ws 1) (branched ws) _ _ plain
-    ∙ passed-off 2 (count ws 0) (unused ws) _ _ used
+    let (l, e) = found-below (λ v. v) (count ws 2) _ c.in-Some-first_unmatched.c (sym c.in-Some-first_unmatched.is ∙ (unmatched-is (goal.at.returns-in-Some-first_unmatched c).After-first_unmatched)) in
+    ap (λ (x : ℕ). 28 ∷ 4 ∷ x ∷ []) e
+    ∙ found-off 4 (count ws 2) (unmatched ws) _ _ l
+    ∙ passed-off 3 (count ws 1) (branched ws) _ _ (plain ws _ c.in_default-branched.is (branched-is (goal.at.returns-in-Some-first_unmatched c).After-first_branched-branched))
+    ∙ passed-off 2 (count ws 0) (unused ws) _ _ (used ws _ c.in_default.is (rw c.words.ensures.words at c.first_unused-unused.ensures))
 
 pub returns : goal.returns
-unfolding tested_answer by_entities first_broken
+unfolding by_entities first_broken
 returns c =
-    let used : let ws = c.args.book.now in any_of (unused ws) (up_to (count ws 0)) ≡ false =
     let ws = c.args.book.now in
-    none-off (count ws 0) (unused ws) (λ l. omega (arith, c.first_unused-v.ensures)) in
-    let plain : let ws = c.args.book.now in any_of (branched ws) (up_to (count ws 1)) ≡ false =
-    let ws = c.args.book.now in
-    none-off (count ws 1) (branched ws) (λ l. omega (arith, c.first_branched-k.ensures)) in
-    let ws = c.args.book.now in
-    let n = none-off (count ws 2) (unmatched ws) (λ l. omega (arith, c.first_unmatched-c.ensures)) in
-    rw (used, plain, n)
+    let l = none-below (λ v. v) (count ws 2) _ (sym c.in_default-first_unmatched.is ∙ (unmatched-is (goal.at.returns c).After-first_unmatched)) in
+    rw (used ws _ c.in_default.is (rw c.words.ensures.words at c.first_unused-unused.ensures), plain ws _ c.in_default-branched.is (branched-is (goal.at.returns c).After-first_branched-branched), none-off (count ws 2) (unmatched ws) (λ k. omega arith))

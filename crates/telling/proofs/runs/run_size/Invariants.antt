@@ -1,12 +1,9 @@
 -- After n turns n pairs are known to go on.
 use mathlib.Core.Path.{◌≡◌}
-use Prim.Native.Nat.{◌+◌, ◌-◌, ◌*◌, ◌/◌, ◌≤◌}
-use lib.ListN.{length, drop}
+use Prim.Native.Nat.{◌+◌, ◌*◌}
+use lib.ListN.{drop}
 use Rattle.telling.specs.Runs.{goes_on}
 use Rattle.telling.proofs.runs.run_size.Given as goal
 
 abbrev pub invariant-loop-n : goal.invariant-loop-n
-invariant-loop-n l = (2 * l.n ≤ length l.pairs) × (goes_on l.first l.why l.pairs ≡ l.n + goes_on (l.first + l.n) l.why (drop (2 * l.n) l.pairs))
-
-abbrev pub decreases-loop-n : goal.decreases-loop-n
-decreases-loop-n l = length l.pairs / 2 - l.n
+invariant-loop-n l = goes_on l.first l.why l.pairs ≡ l.n + goes_on (l.first + l.n) l.why (drop (2 * l.n) l.pairs)
