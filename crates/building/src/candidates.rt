@@ -23,6 +23,16 @@ pub(crate) fn corners(book: &[u32], first: Place) -> [Vertex; 4]
     ]
 }
 
+// How many candidates a cell has: a triangle's edges, or a tetrahedron's edges or faces. It stands beside `book::most`, since the plain engine is held to Build and goes through that one.
+pub(crate) fn choices(top: u32, d: u32) -> usize
+    ensures { result ≡ most top d }
+{
+    if top == 2 {
+        return 3;
+    }
+    if d == 1 { 6 } else { 4 }
+}
+
 // The candidates of a cell in lexicographic order, and behind them empty ones.
 pub(crate) fn candidates(cell: [Vertex; 4], top: u32, d: u32) -> [[u32; 3]; 6]
     requires { Between d top }

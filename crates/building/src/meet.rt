@@ -6,7 +6,7 @@ ghost use Rattle.relations.specs.Words.{row_at};
 ghost use Rattle.building.specs.Sets.{padded};
 ghost use Rattle.building.specs.Cells.{Between, Corners, Candidates};
 
-use crate::candidates::{candidates, corners};
+use crate::candidates::{candidates, choices, corners};
 use relations::Source;
 use std::marker::Model;
 
@@ -118,7 +118,7 @@ impl Met {
         ensures { self.new ≡ map (padded d) (built d [] (map (row_at book.now cells.at.0 cells.rows) (up_to cells.rows))) }
     {
         let top = cells.from;
-        let many = book::most(top, d) as usize;
+        let many = choices(top, d);
         for c in 0..cells.rows as usize {
             let cell = corners(book, cells.start(book, c));
             self.meet_cell(&candidates(cell, top, d)[..many]);

@@ -79,7 +79,7 @@ pub use boxes::Bounds;
 pub use boxing::{box_of, whole_box};
 pub use closing::close;
 pub use drops::drop_relation;
-pub use kinds::{Broken, Cell, NotSheet, Refusal};
+pub use kinds::{Broken, Cell, NotSheet, Refusal, number_of};
 pub use lists::ask_list;
 pub use loading::load;
 pub use makes::make;

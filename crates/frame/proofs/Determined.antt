@@ -4,6 +4,6 @@ use mathlib.Core.List.{List}
 use Prim.Native.Nat.{ℕ}
 use Rattle.frame.specs.declared.Needs.{Needs}
 
--- the needs of a relation, which are seen as the list of their keys
-pub needs-equal : (ns : List ℕ) (p q : Needs) → p ≡ ns → q ≡ ns → p ≡ q
-needs-equal ns p q e f = e ∙ sym f
+-- the needs of a relation
+pub needs-equal : (ns : List ℕ) (n : ℕ) (p q : Needs) → (p.keys ≡ ns) × (p.count ≡ n) → (q.keys ≡ ns) × (q.count ≡ n) → p ≡ q
+needs-equal ns n p q e f = λ i. record { keys = (e.0 ∙ sym f.0) i; count = (e.1 ∙ sym f.1) i }

@@ -1,3 +1,4 @@
+pub mod Listed
 pub mod SoFar
 pub mod Naming
 pub mod Determined

@@ -1,34 +1,25 @@
 // The frame rule: word 0, the keys, the numbers N_1 and N_2, and the used length.
 #![tactic(auto)]
 
-ghost use Rattle.std.specs.Prelude.{◌≡◌, ℕ, List, take, ◌&&◌, ◌≤◌, ◌<◌, length, get_or, eqb, leb};
-ghost use Rattle.rules.specs.Lists.{all_of};
+ghost use Rattle.std.specs.Prelude.{◌≡◌, take, ◌&&◌, ◌≤◌, ◌<◌, length, get_or, eqb, leb};
+ghost use Rattle.rules.specs.Lists.{all_of, filled};
 ghost use Rattle.rules.specs.Book as rule;
 
 use book::{Place, count, dim, held, key, most, place_of, word};
-use std::marker::Model;
 
-// The keys of what a relation is made from, in their order.
-#[derive(Drop)]
+// The keys of what a relation is made from, in order, with zeros behind them, and how many they are.
+#[derive(Clone, Copy)]
 pub struct Needs {
-    keys: [u32; 3],
-    count: usize,
-}
-
-impl Model for Needs {
-    ghost Value = { List ℕ };
-
-    ghost view = { λ n. take n.count n.keys };
-
-    ghost invariant = { λ n. n.count ≤ 3 };
+    pub keys: [u32; 3],
+    pub count: usize,
 }
 
 impl Needs {
     // The keys, as a slice.
     pub fn keys(&self) -> &[u32]
-        ensures { result.now ≡ self.now }
+        ensures { result.now ≡ take self.now.count self.now.keys }
     {
-        &self.keys[..self.count]
+        &self.keys[..self.count.min(3)]
     }
 }
 
@@ -60,7 +51,8 @@ fn head_right(book: &[u32]) -> bool
 // What d→e is made from, where D is `top`.
 pub fn needs_of(top: u32, d: u32, e: u32) -> Needs
     requires { (top ≤ 3) × ((d ≤ 3) × (e ≤ 3)) }
-    ensures { result ≡ rule.needs top d e }
+    ensures keys { result.keys ≡ filled 3 (rule.needs top d e) }
+    ensures count { result.count ≡ length (rule.needs top d e) }
 {
     if e == 0 {
         if d == 0 {

@@ -5,7 +5,7 @@ ghost use Rattle.rules.specs.Book.{most};
 ghost use Rattle.plain.specs.Cells.{Choice};
 
 // How many candidates a cell has: a triangle's edges, or a tetrahedron's edges or faces.
-// Beside `book::most`, by which the frame rule and Build go: the engine counts a cell's candidates by itself (docs/CONTRACTS.md).
+// Beside `book::most`, by which the frame rule goes, and Build's own `choices`: the engine counts a cell's candidates by itself (docs/CONTRACTS.md).
 pub(crate) fn choices(top: usize, d: usize) -> usize
     ensures { result ≡ most top d }
 {

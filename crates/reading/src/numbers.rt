@@ -67,7 +67,14 @@ pub fn euler(book: &[u32]) -> Result<i64, Refusal>
 fn keys_held(book: &[u32]) -> u32
     ensures { result ≡ held_count book.now }
 {
-    (0..16).filter(|k| book::held(book, *k)).count() as u32
+    // A loop: as a chain it is not unrolled, and takes a third more instructions.
+    let mut n: u32 = 0;
+    for k in 0..16 {
+        if book::held(book, k) {
+            n += 1;
+        }
+    }
+    n
 }
 
 // The number of relations held. Refusal: 10; the frame rule alone is checked.

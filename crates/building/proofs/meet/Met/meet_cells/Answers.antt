@@ -23,11 +23,11 @@ corners-cell-requires c =
     omega (arith, c.start.ensures, start-within c.requires.corners c.loop-c.c c.loop-c-test.true, c.well_formed)
 
 -- a cell has at most six candidates
-few : (c : goal.After-candidates) → c.most-many.result ≤ 6
-few c = rw c.most-many.ensures (most-few _ _)
+few : (c : goal.After-candidates) → c.choices-many.result ≤ 6
+few c = rw c.choices-many.ensures (most-few _ _)
 
 -- and they are among the six
-within : (c : goal.After-candidates) → c.most-many.result ≤ length c.candidates.result
+within : (c : goal.After-candidates) → c.choices-many.result ≤ length c.candidates.result
 within c =
     let six : length c.candidates.result ≡ 6 = search rules in
     omega (arith, six, few c)
@@ -41,8 +41,8 @@ slice_bounds-meet_cell-end-in-loop-c c = sym (length-take-le _ _ (within (goal.a
 pub meet_cell-requires : goal.meet_cell-requires
 meet_cell-requires c =
     let k = (goal.at.meet_cell-requires c).After-candidates in
-    let m = c.most-many.ensures in
-    let long = length-take-le c.most-many.result c.candidates.result (within k) in
+    let m = c.choices-many.ensures in
+    let long = length-take-le c.choices-many.result c.candidates.result (within k) in
     record {
       room = omega (arith, c.loop-c.invariant.few, c.loop-c-test.true, c.requires.corners.few);
       few = omega (arith, long, few k);
@@ -52,5 +52,5 @@ meet_cell-requires c =
 pub loop-c-preserved : goal.loop-c-preserved
 loop-c-preserved c =
     let k = (goal.at.loop-c-preserved c).After-candidates in
-    rw (c.meet_cell.ensures, c.most-many.ensures)
+    rw (c.meet_cell.ensures, c.choices-many.ensures)
     (found-more c.loop-c.invariant _ (omega (arith, length-take-le (most c.args.cells.from c.args.d) c.candidates.result (omega (arith, most-few c.args.cells.from c.args.d)), most-few c.args.cells.from c.args.d)) (candidates-are k))
